@@ -1,0 +1,5 @@
+pub mod Floors
+pub mod Steps
+pub mod Fairness
+pub mod UsesLaws
+pub mod GroupLaws
