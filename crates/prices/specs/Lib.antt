@@ -1,0 +1,3 @@
+pub mod Amounts
+pub mod Tables
+pub mod Blocks

@@ -1,0 +1,11 @@
+//! A block or none for each seat.
+ghost use mathlib.Core.Path.{_≡_};
+ghost use lib.ListN.{length};
+use crate::block::Block;
+
+/// A block or none for each of the 16 seats.
+#[derive(Clone, Copy)]
+pub struct BlockTable {
+    pub(crate) blocks: [Option<Block>; 16],
+    ghost seats: { length blocks ≡ 16 },
+}
