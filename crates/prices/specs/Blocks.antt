@@ -23,7 +23,7 @@ block-of None = None
 block-of (Some b) = Some record { parts = b .parts; price = b .price .price }
 
 abbrev pub blocks-data : BlockTable → List (Option BlockData)
-blocks-data t = map block-of (t .blocks)
+blocks-data t = map block-of (t .entries)
 
 -- a seat has a block
 abbrev pub has-block : List (Option BlockData) → ℕ → Bool

@@ -6,6 +6,6 @@ use crate::block::Block;
 /// A block or none for each of the 16 seats.
 #[derive(Clone, Copy)]
 pub struct BlockTable {
-    pub(crate) blocks: [Option<Block>; 16],
-    ghost seats: { length blocks ≡ 16 },
+    pub(crate) entries: [Option<Block>; 16],
+    ghost seats: { length entries ≡ 16 },
 }

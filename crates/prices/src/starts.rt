@@ -12,16 +12,16 @@ use usage::uses::SEATS;
 impl BlockTable {
     /// The table of a block or none for each seat.
     pub fn new(blocks: [Option<Block>; 16]) -> BlockTable
-        ensures { λ r. ⌜ r .blocks ≡ blocks ⌝ }
+        ensures { λ r. ⌜ r .entries ≡ blocks ⌝ }
     {
-        BlockTable { blocks }
+        BlockTable { entries: blocks }
     }
 
     /// The block of a seat, or none; a seat over 15 has none.
     pub fn block(&self, seat: usize) -> Option<Block>
-        ensures { λ r. ⌜ r ≡ getD (now (self .entry) .blocks) seat None ⌝ }
+        ensures { λ r. ⌜ r ≡ getD (now (self .entry) .entries) seat None ⌝ }
     {
-        if seat < SEATS { self.blocks[seat] } else { None }
+        if seat < SEATS { self.entries[seat] } else { None }
     }
 
     /// What the started blocks cost, in ten-millionths.
@@ -32,7 +32,7 @@ impl BlockTable {
         let parts = uses.parts();
         let mut sum: u64 = 0;
         for seat in 0..16 {
-            sum += block_cost(self.blocks[seat], parts[seat]);
+            sum += block_cost(self.entries[seat], parts[seat]);
         }
         sum
     }
