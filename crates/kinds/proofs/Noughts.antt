@@ -33,6 +33,7 @@ empty-changes served drawn charged floor capped above =
       same-seats = λ k. ap (λ (b : Bool). b || served k) (nothing-priced 16 k);
       same-overrun = λ us. refl;
       same-charge = λ us u.
-        let top = capped us u in
-        omega (arith, nothing-costs 16 us, ap charged (nothing-cleared 16 us));
-      same-floor = let top = capped noughts noughts-uses in omega arith }
+          let top = capped us u in
+          omega (arith, nothing-costs 16 us, ap charged (nothing-cleared 16 us));
+      same-floor = let top = capped noughts noughts-uses in omega arith;
+    }

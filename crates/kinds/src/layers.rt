@@ -1,6 +1,6 @@
 //! Making the kinds of tariff from their parts, and their parts back.
 ghost use mathlib.Core.Path.{_≡_};
-ghost use Rattle.prices.specs.Tables.{table-data};
+ghost use Rattle.prices.specs.Tables.{table-data, empty-table};
 ghost use Rattle.kinds.specs.Meanings.{addon-served, addon-drawn, addon-charge, addon-floor};
 ghost use Rattle.kinds.specs.Nothing.{Changes-nothing};
 use crate::addon::AddOn;
@@ -64,9 +64,13 @@ impl<T: Tariff> AddOn<T> {
     /// The add-on without prices, groups or sum: it changes nothing of the tariff below.
     pub fn empty(below: T) -> AddOn<T>
         ensures below { λ r. ⌜ r .below ≡ below ⌝ }
+        ensures table { λ r. ⌜ table-data (r .table) ≡ empty-table ⌝ }
         ensures nothing { λ r. ⌜ Changes-nothing (addon-served (table-data (r .table)) (served (r .below))) (addon-drawn (table-data (r .table)) (drawn (r .below))) (addon-charge (table-data (r .table)) (charged (r .below))) (addon-floor (table-data (r .table)) (floor (r .below))) (served below) (drawn below) (charged below) (floor below) ⌝ }
     {
-        AddOn { table: PriceTable::empty(), below }
+        AddOn {
+            table: PriceTable::empty(),
+            below,
+        }
     }
 }
 

@@ -22,10 +22,10 @@ pub type PhoneOffer = Promotion<AddOn<AddOn<Plan>>>;
 pub type DataOffer = Promotion<AddOn<BlockTariff>>;
 
 /// The total of a phone offer, written out layer by layer.
-pub fn phone_total(offer: &PhoneOffer, estimate: Uses) -> u64
-    ensures { λ r. ⌜ r ≡ offer-total (addon-drawn (table-data (now (offer .entry) .below .table)) (addon-drawn (table-data (now (offer .entry) .below .below .table)) (plan-drawn (table-data (now (offer .entry) .below .below .below .table))))) (λ us. reduced (now (offer .entry) .reduction .hundredths) (addon-charge (table-data (now (offer .entry) .below .table)) (addon-charge (table-data (now (offer .entry) .below .below .table)) (plan-charge (table-data (now (offer .entry) .below .below .below .table)))) us)) (estimate .parts) ⌝ }
+pub fn phone_total(phone: &PhoneOffer, estimate: Uses) -> u64
+    ensures { λ r. ⌜ r ≡ offer-total (addon-drawn (table-data (now (phone .entry) .below .table)) (addon-drawn (table-data (now (phone .entry) .below .below .table)) (plan-drawn (table-data (now (phone .entry) .below .below .below .table))))) (λ us. reduced (now (phone .entry) .reduction .hundredths) (addon-charge (table-data (now (phone .entry) .below .table)) (addon-charge (table-data (now (phone .entry) .below .below .table)) (plan-charge (table-data (now (phone .entry) .below .below .below .table)))) us)) (estimate .parts) ⌝ }
 {
-    total(offer, estimate)
+    total(phone, estimate)
 }
 
 /// The total of a data offer, written out layer by layer.

@@ -29,7 +29,9 @@ pub impl<T: Tariff> Tariff for Promotion<T> as PromotionTariff {
     }
 
     fn charge(&self, uses: &Uses) -> u64 {
-        self.below.charge(uses).saturating_sub(self.reduction.amount())
+        self.below
+            .charge(uses)
+            .saturating_sub(self.reduction.amount())
     }
 
     fn floor(&self) -> u64 {

@@ -28,7 +28,7 @@ module _ {X Y : Type 0} (of : X → Y) (cost : Y → ℕ → ℕ) where
       → (sum + cost (of (getD xs i d)) (getD us i 0)) + seat-sum of cost (drop (i + 1) xs) (drop (i + 1) us) ≡ seat-sum of cost xs us
   sum-more xs us i sum d h k so =
       let e : seat-sum of cost (drop i xs) (drop i us) ≡ cost (of (getD xs i d)) (getD us i 0) + seat-sum of cost (drop (i + 1) xs) (drop (i + 1) us) =
-        rw (drop-more xs i d h, drop-more us i 0 k) in
+      rw (drop-more xs i d h, drop-more us i 0 k) in
       omega arith
 
   -- no seat left

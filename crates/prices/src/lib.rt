@@ -4,6 +4,7 @@ pub mod block;
 pub mod blocks;
 pub mod charges;
 pub mod ranges;
+pub mod sizes;
 pub mod starts;
 pub mod table;
 

@@ -23,4 +23,5 @@ returns-in-Some c =
     let b = c .in-Some .b in
     record {
       is = sym (ap (λ o. block-cost (block-of o) (c .args .parts)) (c .in-Some .is));
-      bound = few (c .args .parts) (b .parts) (b .price .price) (omega arith) (b .least) (b .price .low) }
+      bound = few (c .args .parts) (b .parts) (b .price .price) (omega arith) (b .least) (b .price .low);
+    }

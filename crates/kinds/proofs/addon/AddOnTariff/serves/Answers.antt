@@ -12,7 +12,7 @@ returns-in-Some g c =
     let t = c .args .self .now in
     let k = c .args .seat in
     let some : true ≡ has-price (price-data (t .table .prices)) k =
-      sym (ap isSome (c .in-Some .is)) ∙ (ap isSome (c .price .ensures) ∙ (is-some-of _ ∙ ap isSome (price-at (t .table .prices) k))) in
+    sym (ap isSome (c .in-Some .is)) ∙ (ap isSome (c .price .ensures) ∙ (is-some-of _ ∙ ap isSome (price-at (t .table .prices) k))) in
     ap (λ (b : Bool). b || g .T·Tariff .served (t .below) k) some
 
 pub returns-in-None : need.returns-in-None
@@ -20,5 +20,5 @@ returns-in-None g c =
     let t = c .args .self .now in
     let k = c .args .seat in
     let none : false ≡ has-price (price-data (t .table .prices)) k =
-      sym (ap isSome (c .in-None .is)) ∙ (ap isSome (c .price .ensures) ∙ (is-some-of _ ∙ ap isSome (price-at (t .table .prices) k))) in
+    sym (ap isSome (c .in-None .is)) ∙ (ap isSome (c .price .ensures) ∙ (is-some-of _ ∙ ap isSome (price-at (t .table .prices) k))) in
     c .serves .ensures ∙ ap (λ (b : Bool). b || g .T·Tariff .served (t .below) k) none

@@ -12,15 +12,17 @@ loop-seat-again c =
     let bs = c .args .self .now .entries in
     let us = c .parts-parts .result in
     let i = c .loop-seat .seat in
-    let long = c .parts-parts .ensures .listed .seats in
-    ( omega arith
-    , ap (λ n. c .loop-seat .sum + n + seat-sum block-of block-cost (drop (i + 1) bs) (drop (i + 1) us)) (c .block-cost-sum .ensures .is)
-      ∙ sum-more block-of block-cost bs us i (c .loop-seat .sum) (c .index-self-seat .result) (omega arith) (omega arith) (c .loop-seat .inv .1) )
+    let long = c .parts-parts .ensures .listed .seats in (
+      omega arith,
+      ap (λ n. c .loop-seat .sum + n + seat-sum block-of block-cost (drop (i + 1) bs) (drop (i + 1) us)) (c .block-cost-sum .ensures .is)
+          ∙ sum-more block-of block-cost bs us i (c .loop-seat .sum) (c .index-self-seat .result) (omega arith) (omega arith) (c .loop-seat .inv .1),
+    )
 
 pub returns : need.returns
 returns c =
     let bs = c .args .self .now .entries in
     record {
       is = sum-all block-of block-cost bs (c .parts-parts .result) (c .loop-seat .seat) (c .loop-seat .sum) (omega arith) (c .loop-seat .inv .1)
-        ∙ (blocks-is bs (c .parts-parts .result) ∙ ap (blocks-cost (map block-of bs)) (c .parts-parts .ensures .same));
-      bound = omega arith }
+          ∙ (blocks-is bs (c .parts-parts .result) ∙ ap (blocks-cost (map block-of bs)) (c .parts-parts .ensures .same));
+      bound = omega arith;
+    }

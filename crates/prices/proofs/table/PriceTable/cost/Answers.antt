@@ -20,15 +20,17 @@ loop-seat-again c =
     let ps = c .args .self .now .prices in
     let us = c .parts-parts .result in
     let i = c .loop-seat .seat in
-    let long = c .parts-parts .ensures .listed .seats in
-    ( omega (arith, few c)
-    , ap (λ n. c .loop-seat .sum + n + seat-sum price-of seat-cost (drop (i + 1) ps) (drop (i + 1) us)) (c .seat-cost-sum .ensures)
-      ∙ sum-more price-of seat-cost ps us i (c .loop-seat .sum) (c .index-self-seat .result) (omega arith) (omega arith) (c .loop-seat .inv .1) )
+    let long = c .parts-parts .ensures .listed .seats in (
+      omega (arith, few c),
+      ap (λ n. c .loop-seat .sum + n + seat-sum price-of seat-cost (drop (i + 1) ps) (drop (i + 1) us)) (c .seat-cost-sum .ensures)
+          ∙ sum-more price-of seat-cost ps us i (c .loop-seat .sum) (c .index-self-seat .result) (omega arith) (omega arith) (c .loop-seat .inv .1),
+    )
 
 pub returns : need.returns
 returns c =
     let ps = c .args .self .now .prices in
     record {
       is = sum-all price-of seat-cost ps (c .parts-parts .result) (c .loop-seat .seat) (c .loop-seat .sum) (omega arith) (c .loop-seat .inv .1)
-        ∙ (priced-is ps (c .parts-parts .result) ∙ ap (priced-cost (price-data ps)) (c .parts-parts .ensures .same));
-      bound = omega arith }
+          ∙ (priced-is ps (c .parts-parts .result) ∙ ap (priced-cost (price-data ps)) (c .parts-parts .ensures .same));
+      bound = omega arith;
+    }

@@ -13,12 +13,13 @@ pub loop-seat-again : need.loop-seat-again
 loop-seat-again c =
     let ps = c .args .self .now .prices in
     let fs = c .loop-seat .flags in
-    let i = c .loop-seat .seat in
-    ( length-set fs i (c .is-some .result) ∙ c .loop-seat .inv .0
-    , take-more-set fs i (c .is-some .result) (omega arith)
-      ∙ (ap (λ xs. xs ++ (c .is-some .result ∷ [])) (c .loop-seat .inv .1)
-      ∙ (ap (λ (b : Bool). map isSome (take i ps) ++ (b ∷ [])) (c .is-some .ensures)
-      ∙ sym (map-more isSome ps i (c .index-self-seat .result) (omega arith)))) )
+    let i = c .loop-seat .seat in (
+      length-set fs i (c .is-some .result) ∙ c .loop-seat .inv .0,
+      take-more-set fs i (c .is-some .result) (omega arith)
+          ∙ (ap (λ xs. xs ++ (c .is-some .result ∷ [])) (c .loop-seat .inv .1)
+          ∙ (ap (λ (b : Bool). map isSome (take i ps) ++ (b ∷ [])) (c .is-some .ensures)
+          ∙ sym (map-more isSome ps i (c .index-self-seat .result) (omega arith)))),
+    )
 
 pub returns : need.returns
 returns c =

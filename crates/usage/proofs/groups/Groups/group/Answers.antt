@@ -11,10 +11,9 @@ use Rattle.usage.proofs.groups.Groups.group.Needs as need
 pub returns-then-at-self : need.returns-then-at-self
 returns-then-at-self c =
     let self = c .args .self .now in
-    let d = c .index-self-at .result in
     let long = length-take-le (self .count) (self .entries) (omega arith) in
-    ap (λ g. Some (data-of g)) (sym (getD-take (self .count) (self .entries) (c .args .at) d (c .if-at-self .taken)))
-    ∙ group-within (take (self .count) (self .entries)) (c .args .at) d (omega arith)
+    ap (λ g. Some (data-of g)) (sym (getD-take (self .count) (self .entries) (c .args .at) _ (c .if-at-self .taken)))
+    ∙ group-within (take (self .count) (self .entries)) (c .args .at) _ (omega arith)
 
 pub returns-else-at-self : need.returns-else-at-self
 returns-else-at-self c =

@@ -1,0 +1,9 @@
+//! The table of worked examples.
+ghost use Rattle.examples.specs.Worked.{Worked-examples};
+
+/// The worked examples hold.
+pub fn worked_examples() -> bool
+    ensures { λ r. ⌜ Worked-examples ⌝ }
+{
+    true
+}
