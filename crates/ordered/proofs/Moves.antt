@@ -47,19 +47,19 @@ put-at xs ys at held x b e m =
     let a : at ≤ held = m .to in
     same-lists _ _ (search (needs, places))
     (λ k d h. let len : k < length xs = omega (arith, length-set ys at x) in ⊎-elim
-      (λ (p : k ≡ at). search (needs, places))
-      (⊎-elim
-        (λ (p : k < at). let l = m .stayed k d (omega arith) in search (needs, places))
-        (λ (p : at < k). ⊎-elim
-          (λ (q : k < held + 1).
-            let long = length-take-le held xs (omega arith) in
-            let whole = length-inserted (take held xs) at x (omega arith) in
-            let back : k ≡ k - 1 + 1 = omega arith in
-            getD-set-other ys at k x d (omega arith) ∙ m .moved k d p (omega arith) ∙ sym (
-              getD-append-left (inserted (take held xs) at x) (drop (held + 1) xs) d k (omega arith)
-              ∙ ap (λ n. getD (inserted (take held xs) at x) n d) back
-              ∙ getD-inserted-above (take held xs) at x d (k - 1) (omega arith) (omega arith)
-              ∙ getD-take held xs (k - 1) d (omega arith)))
-          (λ (q : held + 1 ≤ k). let l = m .behind k d (omega arith) in search (needs, places))
-          (cases-lt k (held + 1))))
-      (cases-order k at))
+    (λ (p : k ≡ at). search (needs, places))
+    (⊎-elim
+    (λ (p : k < at). let l = m .stayed k d (omega arith) in search (needs, places))
+    (λ (p : at < k). ⊎-elim
+    (λ (q : k < held + 1).
+    let long = length-take-le held xs (omega arith) in
+    let whole = length-inserted (take held xs) at x (omega arith) in
+    let back : k ≡ k - 1 + 1 = omega arith in
+    getD-set-other ys at k x d (omega arith) ∙ m .moved k d p (omega arith) ∙ sym (
+    getD-append-left (inserted (take held xs) at x) (drop (held + 1) xs) d k (omega arith)
+    ∙ ap (λ n. getD (inserted (take held xs) at x) n d) back
+    ∙ getD-inserted-above (take held xs) at x d (k - 1) (omega arith) (omega arith)
+    ∙ getD-take held xs (k - 1) d (omega arith)))
+    (λ (q : held + 1 ≤ k). let l = m .behind k d (omega arith) in search (needs, places))
+    (cases-lt k (held + 1))))
+    (cases-order k at))

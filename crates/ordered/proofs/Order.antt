@@ -59,8 +59,8 @@ module _ {X : Type 0} (before : X → X → Bool) where
       cond-both (before x y) (x ∷ y ∷ ys) (y ∷ insert before x ys) (λ zs. ascending before zs ≡ true)
       (λ h. and-from _ _ (and-from _ _ h (all-weak (before y) (before x) (λ z g. trans x y z h g) ys (b .0))) a)
       (λ h.
-        let behind : before y x ≡ true = ⊎-elim (λ e. absurd (both-ways (before x y) h e)) (λ e. e) (or-cases (before x y) (before y x) (apart .0)) in
-        and-from _ _ (all-insert (before y) x ys behind (b .0)) (ascending-insert trans x ys (b .1) (apart .1)))
+      let behind : before y x ≡ true = ⊎-elim (λ e. absurd (both-ways (before x y) h e)) (λ e. e) (or-cases (before x y) (before y x) (apart .0)) in
+      and-from _ _ (all-insert (before y) x ys behind (b .0)) (ascending-insert trans x ys (b .1) (apart .1)))
 
 -- inserting goes with a map that keeps the order
 pub map-insert : {X Y : Type 0} (f : X → Y) (before : X → X → Bool) (first : Y → Y → Bool) → ((a b : X) → before a b ≡ first (f a) (f b))

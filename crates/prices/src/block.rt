@@ -4,6 +4,7 @@ use crate::amounts::UnitPrice;
 
 /// The fewest and the most parts of a block.
 pub const LEAST_BLOCK: u32 = 1_000;
+
 pub const MOST_BLOCK: u32 = 1_000_000_000;
 
 /// A block of parts, and the price of a block: a unit price, multiplied by 1,000 to be a total.

@@ -21,14 +21,22 @@ impl PriceTable {
     pub fn new(fixed: FixedSum, prices: [Option<UnitPrice>; 16], groups: Groups) -> PriceTable
         ensures { λ r. ⌜ (r .fixed ≡ fixed) × (r .prices ≡ prices) × (r .groups ≡ groups) ⌝ }
     {
-        PriceTable { fixed, prices, groups }
+        PriceTable {
+            fixed,
+            prices,
+            groups,
+        }
     }
 
     /// The table without prices, groups or sum.
     pub fn empty() -> PriceTable
         ensures { λ r. ⌜ table-data r ≡ empty-table ⌝ }
     {
-        PriceTable { fixed: FixedSum { hundredths: 0 }, prices: [None; 16], groups: Groups::none() }
+        PriceTable {
+            fixed: FixedSum { hundredths: 0 },
+            prices: [None; 16],
+            groups: Groups::none(),
+        }
     }
 
     /// The fixed sum.
@@ -49,7 +57,11 @@ impl PriceTable {
     pub fn price(&self, seat: usize) -> Option<UnitPrice>
         ensures { λ r. ⌜ r ≡ getD (now (self .entry) .prices) seat None ⌝ }
     {
-        if seat < SEATS { self.prices[seat] } else { None }
+        if seat < SEATS {
+            self.prices[seat]
+        } else {
+            None
+        }
     }
 
     /// The seats that have a price.

@@ -21,7 +21,11 @@ impl BlockTable {
     pub fn block(&self, seat: usize) -> Option<Block>
         ensures { λ r. ⌜ r ≡ getD (now (self .entry) .blocks) seat None ⌝ }
     {
-        if seat < SEATS { self.blocks[seat] } else { None }
+        if seat < SEATS {
+            self.blocks[seat]
+        } else {
+            None
+        }
     }
 
     /// What the started blocks cost, in ten-millionths.

@@ -87,10 +87,10 @@ gives-all ms units us =
     by-drawn ms units us (λ xs. total xs + q ≡ total us)
     (λ e. omega arith)
     (λ pos.
-      let a = fallen-sum q s 0 ms us pos (omega arith) in
-      let b : total (draws q s 0 ms us) + q * 0 / s ≡ q * (0 + s) / s = draws-sum q s 0 ms us pos in
-      let same : q * (0 + s) / s ≡ q * s / s = ap (λ n. q * n / s) (omega arith) in
-      omega (arith, floor-whole q s pos, floor-none q s))
+    let a = fallen-sum q s 0 ms us pos (omega arith) in
+    let b : total (draws q s 0 ms us) + q * 0 / s ≡ q * (0 + s) / s = draws-sum q s 0 ms us pos in
+    let same : q * (0 + s) / s ≡ q * s / s = ap (λ n. q * n / s) (omega arith) in
+    omega (arith, floor-whole q s pos, floor-none q s))
 
 pub drawn-fair : (ms : List Bool) (units : ℕ) (us : List ℕ) → Fair-draw ms units us (drawn ms units us)
 unfolding Fair
@@ -103,12 +103,13 @@ drawn-fair ms units us =
       gives-out = gives-all ms units us;
       lowers = λ k. by-drawn ms units us (λ xs. getD xs k 0 ≤ getD us k 0) (λ e. omega arith) (λ e. fallen-le us ds k);
       others-stay = λ k is.
-        by-drawn ms units us (λ xs. getD xs k 0 ≡ getD us k 0) (λ e. refl)
-        (λ pos. omega (arith, fallen-at us ds k, draws-others q s 0 ms us k is));
+          by-drawn ms units us (λ xs. getD xs k 0 ≡ getD us k 0) (λ e. refl)
+          (λ pos. omega (arith, fallen-at us ds k, draws-others q s 0 ms us k is));
       near-share = λ k some lt is.
-        by-drawn ms units us (λ xs. Near-share q s (getD us k 0) (getD us k 0 - getD xs k 0))
-        (λ e. absurd (omega arith))
-        (λ pos.
+          by-drawn ms units us (λ xs. Near-share q s (getD us k 0) (getD us k 0 - getD xs k 0))
+          (λ e. absurd (omega arith))
+          (λ pos.
           let fair = draws-fair q s 0 ms us k pos (omega arith) lt is in
           let d : getD us k 0 - getD (fallen us ds) k 0 ≡ getD ds k 0 = omega (arith, fallen-at us ds k) in
-          rw d (fair .1)) }
+          rw d (fair .1));
+    }

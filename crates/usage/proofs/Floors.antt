@@ -17,7 +17,7 @@ floor-near q s p u pos le =
     let m : q * p % s < s = mod-lt (q * p) pos in
     let d = div-add-mod' (q * p) s in
     let below : q * (p + u) < (q * p / s + u + 1) * s =
-        omega (arith, add-mul (q * p / s + u) 1 s, add-mul (q * p / s) u s, mul-comm u s) in
+    omega (arith, add-mul (q * p / s + u) 1 s, add-mul (q * p / s) u s, mul-comm u s) in
     let lt : q * (p + u) / s < q * p / s + u + 1 = div-below (q * (p + u)) s (q * p / s + u + 1) pos below in
     omega arith
 

@@ -36,9 +36,9 @@ unused-apart g (h ∷ hs) e =
     let ne = eqb-false (h .order) (g .order) (p .0) in
     and-from _ _
     (⊎-elim
-      (λ (l : g .order < h .order). ap (λ (b : Bool). b || lower h g) (lt-ltb _ _ l))
-      (λ (l : h .order ≤ g .order). let m : h .order < g .order = omega (arith, ne) in or-right (lower g h) (lower h g) (lt-ltb _ _ m))
-      (cases-lt (g .order) (h .order)))
+    (λ (l : g .order < h .order). ap (λ (b : Bool). b || lower h g) (lt-ltb _ _ l))
+    (λ (l : h .order ≤ g .order). let m : h .order < g .order = omega (arith, ne) in or-right (lower g h) (lower h g) (lt-ltb _ _ m))
+    (cases-lt (g .order) (h .order)))
     (unused-apart g hs (p .1))
 
 -- groups that stand by ascending order do so by their values
@@ -84,7 +84,7 @@ pub all-more : (gs : List Group) (i : ℕ) (g : Group) (us us′ whole : List �
     → drawn-all (map data-of (drop i gs)) us ≡ whole → drawn-all (map data-of (drop (i + 1) gs)) us′ ≡ whole
 all-more gs i g us us′ whole h is now so =
     let more : drawn-all (map data-of (drop i gs)) us ≡ drawn-all (map data-of (drop (i + 1) gs)) (drawn (getD gs i g .members .flags) (getD gs i g .units) us) =
-      at-drop-more (λ hs. drawn-all (map data-of hs) us) gs i g h in
+    at-drop-more (λ hs. drawn-all (map data-of hs) us) gs i g h in
     let here : drawn (getD gs i g .members .flags) (getD gs i g .units) us ≡ us′ = ap (λ (x : Group). drawn (x .members .flags) (x .units) us) (sym is) ∙ sym now in
     ap (drawn-all (map data-of (drop (i + 1) gs))) (sym here) ∙ (sym more ∙ so)
 

@@ -23,11 +23,11 @@ module _ (ms : List Bool) (us : List ℕ) (i : ℕ) (in-ms : i < length ms) (in-
   used-out e = rw (drop-more ms i false in-ms, drop-more us i 0 in-us, e)
 
   pub left-in : (q s p : ℕ) → getD ms i false ≡ true
-    → left q s p (drop i ms) (drop i us) ≡ (getD us i 0 - (q * (p + getD us i 0) / s - q * p / s)) ∷ left q s (p + getD us i 0) (drop (i + 1) ms) (drop (i + 1) us)
+      → left q s p (drop i ms) (drop i us) ≡ (getD us i 0 - (q * (p + getD us i 0) / s - q * p / s)) ∷ left q s (p + getD us i 0) (drop (i + 1) ms) (drop (i + 1) us)
   left-in q s p e = rw (drop-more ms i false in-ms, drop-more us i 0 in-us, e)
 
   pub left-out : (q s p : ℕ) → getD ms i false ≡ false
-    → left q s p (drop i ms) (drop i us) ≡ getD us i 0 ∷ left q s p (drop (i + 1) ms) (drop (i + 1) us)
+      → left q s p (drop i ms) (drop i us) ≡ getD us i 0 ∷ left q s p (drop (i + 1) ms) (drop (i + 1) us)
   left-out q s p e = rw (drop-more ms i false in-ms, drop-more us i 0 in-us, e, sub-zero)
 
 -- past the last seat nothing is left
@@ -50,36 +50,38 @@ Drawing ms us q s i parts p before =
     × (take i parts ++ left q s p (drop i ms) (drop i us) ≡ left q s 0 ms us)
 
 module _ (ms : List Bool) (us : List ℕ) (q s i : ℕ) (parts : List ℕ) (p before : ℕ)
-         (in-ms : i < length ms) (in-us : i < length us) (in-parts : i < length parts) (so : Drawing ms us q s i parts p before)
-         (parts′ : List ℕ) (p′ before′ : ℕ) where
+    (in-ms : i < length ms) (in-us : i < length us) (in-parts : i < length parts) (so : Drawing ms us q s i parts p before)
+    (parts′ : List ℕ) (p′ before′ : ℕ) where
   pub drawing-in : getD ms i false ≡ true
-    → parts′ ≡ set parts i (getD us i 0 - (q * (p + getD us i 0) / s - before)) → p′ ≡ p + getD us i 0 → before′ ≡ q * (p + getD us i 0) / s
-    → Drawing ms us q s (i + 1) parts′ p′ before′
+      → parts′ ≡ set parts i (getD us i 0 - (q * (p + getD us i 0) / s - before)) → p′ ≡ p + getD us i 0 → before′ ≡ q * (p + getD us i 0) / s
+      → Drawing ms us q s (i + 1) parts′ p′ before′
   drawing-in e wrote grown floored =
       let u = getD us i 0 in
       let all = left q s 0 ms us in
       let rest = left q s (p + u) (drop (i + 1) ms) (drop (i + 1) us) in
       let x = u - (q * (p + u) / s - before) in
       let next : take i parts ++ (x ∷ rest) ≡ all = rw (so .2) (rw (left-in ms us i in-ms in-us q s p e) at (so .3)) in
-      let is : take (i + 1) (set parts i x) ++ rest ≡ all = written parts rest all i x in-parts next in
-      ( ap length wrote ∙ (length-set parts i x ∙ so .0)
-      , omega (arith, used-in ms us i in-ms in-us e)
-      , (cc)
-      , rw (wrote, grown) is )
+      let is : take (i + 1) (set parts i x) ++ rest ≡ all = written parts rest all i x in-parts next in (
+        ap length wrote ∙ (length-set parts i x ∙ so .0),
+        omega (arith, used-in ms us i in-ms in-us e),
+        (cc),
+        rw (wrote, grown) is,
+      )
 
   pub drawing-out : getD ms i false ≡ false
-    → parts′ ≡ set parts i (getD us i 0) → p′ ≡ p → before′ ≡ before
-    → Drawing ms us q s (i + 1) parts′ p′ before′
+      → parts′ ≡ set parts i (getD us i 0) → p′ ≡ p → before′ ≡ before
+      → Drawing ms us q s (i + 1) parts′ p′ before′
   drawing-out e wrote same kept =
       let u = getD us i 0 in
       let all = left q s 0 ms us in
       let rest = left q s p (drop (i + 1) ms) (drop (i + 1) us) in
       let next : take i parts ++ (u ∷ rest) ≡ all = rw (left-out ms us i in-ms in-us q s p e) at (so .3) in
-      let is : take (i + 1) (set parts i u) ++ rest ≡ all = written parts rest all i u in-parts next in
-      ( ap length wrote ∙ (length-set parts i u ∙ so .0)
-      , omega (arith, used-out ms us i in-ms in-us e)
-      , (cc)
-      , rw (wrote, same) is )
+      let is : take (i + 1) (set parts i u) ++ rest ≡ all = written parts rest all i u in-parts next in (
+        ap length wrote ∙ (length-set parts i u ∙ so .0),
+        omega (arith, used-out ms us i in-ms in-us e),
+        (cc),
+        rw (wrote, same) is,
+      )
 
 drawing-end : (ms : List Bool) (us : List ℕ) (q s i : ℕ) (parts : List ℕ) (p before : ℕ)
     → length us ≤ i → length parts ≤ i → Drawing ms us q s i parts p before → parts ≡ left q s 0 ms us

@@ -20,7 +20,11 @@ impl Seats {
     pub fn contains(&self, seat: usize) -> bool
         ensures { λ r. ⌜ r ≡ getD (now (self .entry) .flags) seat false ⌝ }
     {
-        if seat < SEATS { self.flags[seat] } else { false }
+        if seat < SEATS {
+            self.flags[seat]
+        } else {
+            false
+        }
     }
 
     /// Whether no seat is in the set.

@@ -23,7 +23,11 @@ impl Group {
         if units > MOST_UNITS {
             return Err(Refusal::OutOfRange);
         }
-        Ok(Group { members, units, order })
+        Ok(Group {
+            members,
+            units,
+            order,
+        })
     }
 
     /// The list of uses after the group was drawn, by the rule of cumulated floors.

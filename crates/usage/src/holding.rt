@@ -32,8 +32,15 @@ impl Groups {
         ensures { λ r. ⌜ held r ≡ [] ⌝ }
     {
         let nobody = Seats { flags: [false; 16] };
-        let unused = Group { members: nobody, units: 0, order: 0 };
-        Groups { entries: [unused; 8], count: 0 }
+        let unused = Group {
+            members: nobody,
+            units: 0,
+            order: 0,
+        };
+        Groups {
+            entries: [unused; 8],
+            count: 0,
+        }
     }
 
     /// These groups and one more, in its place by order; or the topmost cause that refuses it.
@@ -50,7 +57,10 @@ impl Groups {
         }
         let mut entries = self.entries;
         match put(&mut entries, self.count, group) {
-            Ok(()) => Ok(Groups { entries, count: self.count + 1 }),
+            Ok(()) => Ok(Groups {
+                entries,
+                count: self.count + 1,
+            }),
             Err(_) => Err(Refusal::NinthGroup),
         }
     }
@@ -68,7 +78,11 @@ impl Groups {
     pub fn group(&self, at: usize) -> Option<Group>
         ensures { λ r. ⌜ mapped data-of r ≡ group-at (held (now (self .entry))) at ⌝ }
     {
-        if at < self.count { Some(self.entries[at]) } else { None }
+        if at < self.count {
+            Some(self.entries[at])
+        } else {
+            None
+        }
     }
 
     /// The list of uses after all groups were drawn, by ascending order.

@@ -14,8 +14,9 @@ returns g c =
     let h = c .args .held in
     let x = c .args .item in
     -- `&memory[0..held]` is `take (held - 0)` as it is written, and `search` joins it with `take held`
-    let at : c .spot-of-at .result ≡ spot (g .T·Ranked .before) x (take h xs) = search needs in
-    ( search needs
-    , c .shift .ensures
-      ∙ ap (λ n. inserted (take h xs) n x ++ drop (h + 1) xs) at
-      ∙ ap (λ l. l ++ drop (h + 1) xs) (insert-is (g .T·Ranked .before) x (take h xs)) )
+    let at : c .spot-of-at .result ≡ spot (g .T·Ranked .before) x (take h xs) = search needs in (
+      search needs,
+      c .shift .ensures
+          ∙ ap (λ n. inserted (take h xs) n x ++ drop (h + 1) xs) at
+          ∙ ap (λ l. l ++ drop (h + 1) xs) (insert-is (g .T·Ranked .before) x (take h xs)),
+    )

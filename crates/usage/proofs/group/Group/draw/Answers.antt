@@ -44,7 +44,8 @@ turn c =
       small = c .args .uses .bounded i;
       was = c .loop-i .inv .2;
       up = omega (arith, floor-more q s p u pos);
-      near = omega (arith, floor-near q s p u pos le) }
+      near = omega (arith, floor-near q s p u pos le);
+    }
 
 pub mul-floor : need.mul-floor
 mul-floor c =
@@ -69,8 +70,9 @@ loop-i-again c =
     let in-us : i < length us = omega arith in
     let in-parts : i < length (c .loop-i .parts) = omega arith in
     elim (c .if-self-i .came) [
-      then-self-i w ↦ drawing-in ms us _ _ i _ _ _ in-ms in-us in-parts (c .loop-i .inv) _ _ _ (w .if-self-i .taken) (w .parts-is) (w .p-is) (w .before-is)
-    | else-self-i w ↦ drawing-out ms us _ _ i _ _ _ in-ms in-us in-parts (c .loop-i .inv) _ _ _ (w .if-self-i .left) (w .parts-is) (w .p-is) (w .before-is) ]
+      | then-self-i w ↦ drawing-in ms us _ _ i _ _ _ in-ms in-us in-parts (c .loop-i .inv) _ _ _ (w .if-self-i .taken) (w .parts-is) (w .p-is) (w .before-is)
+      | else-self-i w ↦ drawing-out ms us _ _ i _ _ _ in-ms in-us in-parts (c .loop-i .inv) _ _ _ (w .if-self-i .left) (w .parts-is) (w .p-is) (w .before-is)
+    ]
 
 pub ghost-result : need.ghost-result
 ghost-result c =
@@ -78,7 +80,7 @@ ghost-result c =
     let units = c .args .self .now .units in
     let us = c .args .uses .parts in
     let e : c .loop-i .parts ≡ drawn ms units us =
-      drawing-all ms us units _ _ (c .loop-i .i) (c .loop-i .parts) _ _ (c .members-use-s .ensures .is) (c .min-q .ensures) (omega arith) (omega arith) (omega arith) (c .loop-i .inv) in
+    drawing-all ms us units _ _ (c .loop-i .i) (c .loop-i .parts) _ _ (c .members-use-s .ensures .is) (c .min-q .ensures) (omega arith) (omega arith) (omega arith) (c .loop-i .inv) in
     (c .loop-i .inv .0, ((λ k. rw e (omega (arith, drawn-fair ms units us .lowers k, c .args .uses .bounded k))), tt))
 
 pub returns : need.returns
@@ -87,5 +89,5 @@ returns c =
     let units = c .args .self .now .units in
     let us = c .args .uses .parts in
     let e : c .loop-i .parts ≡ drawn ms units us =
-      drawing-all ms us units _ _ (c .loop-i .i) (c .loop-i .parts) _ _ (c .members-use-s .ensures .is) (c .min-q .ensures) (omega arith) (omega arith) (omega arith) (c .loop-i .inv) in
+    drawing-all ms us units _ _ (c .loop-i .i) (c .loop-i .parts) _ _ (c .members-use-s .ensures .is) (c .min-q .ensures) (omega arith) (omega arith) (omega arith) (c .loop-i .inv) in
     record { is = e; fair = subst (Fair-draw ms units us) (sym e) (drawn-fair ms units us) }

@@ -17,8 +17,9 @@ loop-i-again c =
     let in-us : i < length us = omega arith in
     let small : getD us i 0 ≤ 100000000 = c .args .uses .now .bounded i in
     elim (c .if-self-i .came) [
-      then-self-i w ↦ (omega (arith, w .sum-is), omega (arith, w .sum-is, used-in ms us i in-ms in-us (w .if-self-i .taken)))
-    | else-self-i w ↦ (omega (arith, w .sum-is), omega (arith, w .sum-is, used-out ms us i in-ms in-us (w .if-self-i .left))) ]
+      | then-self-i w ↦ (omega (arith, w .sum-is), omega (arith, w .sum-is, used-in ms us i in-ms in-us (w .if-self-i .taken)))
+      | else-self-i w ↦ (omega (arith, w .sum-is), omega (arith, w .sum-is, used-out ms us i in-ms in-us (w .if-self-i .left)))
+    ]
 
 pub returns : need.returns
 returns c =

@@ -26,16 +26,22 @@ ghost-result c =
     let order : group .order ≡ c .args .order = ap (λ (d : GroupData). d .order) (c .in-Continue-group .ensures tt .1) in
     let unused : has-order (c .args .order) (map data-of kept) ≡ false = search needs in
     let free : has-order (group .order) (map data-of kept) ≡ false = ap (λ o. has-order o (map data-of kept)) order ∙ unused in
-    let room : self .count < length (self .entries) = omega arith in
-    ( put-length group (self .entries) fs (self .count) room wrote ∙ self .room
-    , (omega arith
-    , (put-rising group (self .entries) fs (self .count) room wrote (self .rising) free
-    , tt)) )
+    let room : self .count < length (self .entries) = omega arith in (
+      put-length group (self .entries) fs (self .count) room wrote ∙ self .room,
+      (
+        omega arith,
+        (
+          put-rising group (self .entries) fs (self .count) room wrote (self .rising) free,
+          tt,
+        ),
+      ),
+    )
 
 pub returns-in-Ok : need.returns-in-Ok
 returns-in-Ok c =
     let self = c .args .self in
     let new = group-data (c .args .members .flags) (c .args .units) (c .args .order) in
-    let unused : has-order (c .args .order) (map data-of (take (self .count) (self .entries))) ≡ false = search needs in
-    ( cause-none _ new (c .in-Continue-group .ensures tt .0) (held-length (self .entries) (self .count) (omega arith) (omega arith)) unused
-    , put-data (c .in-Continue-group .group) (self .entries) (c .put .last .memory) (self .count) (omega arith) (c .in-Ok .ensures tt .1) new (c .in-Continue-group .ensures tt .1) )
+    let unused : has-order (c .args .order) (map data-of (take (self .count) (self .entries))) ≡ false = search needs in (
+      cause-none _ new (c .in-Continue-group .ensures tt .0) (held-length (self .entries) (self .count) (omega arith) (omega arith)) unused,
+      put-data (c .in-Continue-group .group) (self .entries) (c .put .last .memory) (self .count) (omega arith) (c .in-Ok .ensures tt .1) new (c .in-Continue-group .ensures tt .1),
+    )

@@ -13,4 +13,5 @@ returns c =
     record {
       many = sym (length-map kept data-of ∙ length-take-le (self .count) (self .entries) (omega arith));
       few = self .few;
-      ascending = held-in-order kept (self .rising) }
+      ascending = held-in-order kept (self .rising);
+    }

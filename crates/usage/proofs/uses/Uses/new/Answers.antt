@@ -10,11 +10,14 @@ use Rattle.usage.proofs.uses.Uses.new.Needs as need
 use Rattle.usage.proofs.uses.Uses.new.Needs.{then-numbers-ne-SEATS·by·then-numbers-ne-SEATS, then-numbers-ne-SEATS·by·else-numbers-ne-SEATS·then-not-are-small}
 
 pub returns-then-numbers-ne-SEATS : need.returns-then-numbers-ne-SEATS
-returns-then-numbers-ne-SEATS c =
-    (refl, λ u. elim (c .then-numbers-ne-SEATS .came) [
-      then-numbers-ne-SEATS·by·then-numbers-ne-SEATS w ↦ w .if-numbers-ne-SEATS .taken (u .seats)
+returns-then-numbers-ne-SEATS c = (
+  refl,
+  λ u. elim (c .then-numbers-ne-SEATS .came) [
+    | then-numbers-ne-SEATS·by·then-numbers-ne-SEATS w ↦ w .if-numbers-ne-SEATS .taken (u .seats)
     | then-numbers-ne-SEATS·by·else-numbers-ne-SEATS·then-not-are-small w ↦
-        both-ways (small (c .args .numbers .now)) (sym (w .are-small .ensures) ∙ w .if-not-are-small .taken) (all-small (c .args .numbers .now) (u .bounded)) ])
+        both-ways (small (c .args .numbers .now)) (sym (w .are-small .ensures) ∙ w .if-not-are-small .taken) (all-small (c .args .numbers .now) (u .bounded))
+  ],
+)
 
 pub ghost-result : need.ghost-result
 ghost-result c =
