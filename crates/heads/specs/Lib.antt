@@ -1,0 +1,5 @@
+pub mod Kinds
+pub mod Texts
+pub mod Rules
+pub mod Names
+pub mod Heads
