@@ -3,13 +3,15 @@ use mathlib.Core.Path.{_≡_, refl, sym, ap, subst, _∙_}
 use mathlib.Core.List.{List, [], _∷_, _++_}
 use mathlib.Core.Bool.{Bool, true, false, _||_}
 use mathlib.Core.Logic.{_⊎_, inl, inr, ⊎-elim}
-use Prim.Native.Nat.{ℕ}
-use lib.ListN.{length, take, drop, take-append-drop}
+use mathlib.Core.List.{map}
+use Prim.Native.Nat.{ℕ, _+_, _<_}
+use lib.ListN.{length, take, drop, getD, take-append-drop}
+use Rattle.std.proofs.shelf.Lists.{drop-more}
 use Rattle.std.proofs.shelf.Tests.{and-parts, and-from, or-left, or-right, cases-bool}
 use Rattle.ordered.specs.Inserting.{insert}
 use Rattle.ordered.specs.Ascending.{all, ascending}
-use Rattle.ordered.specs.Members.{Among}
-use Rattle.ordered.proofs.Members.{all-among, among-all, among-append, append-among}
+use Rattle.ordered.specs.Members.{Among, Apart}
+use Rattle.ordered.proofs.Members.{all-among, among-all, among-append, append-among, among-map}
 use Rattle.ordered.proofs.Order.{ascending-insert}
 
 -- no item stands before itself, and of two that differ one stands before the other
@@ -49,7 +51,25 @@ module _ {X : Type 0} (before : X → X → Bool) where
   pub ascending-cut : (n : ℕ) (xs : List X) → ascending before xs ≡ true → (x y : X) → Among x (take n xs) → Among y (drop n xs) → before x y ≡ true
   ascending-cut n xs a = ascending-across (take n xs) (drop n xs) (split n xs a)
 
+  -- the item at k is the first of those from k on
+  pub ascending-first : (k : ℕ) (xs : List X) (d : X) → k < length xs → ascending before xs ≡ true → (y : X) → Among y (drop k xs) → (y ≡ getD xs k d) ⊎ (before (getD xs k d) y ≡ true)
+  ascending-first k xs d h a y m =
+      let rest = drop-more xs k d h in
+      let b = ap (ascending before) (sym rest) ∙ ascending-drop k xs a in
+      ⊎-elim inl (λ j. inr (all-among (before (getD xs k d)) (drop (k + 1) xs) y (and-parts _ _ b .0) j)) (subst (Among y) rest m)
+
 module _ {X : Type 0} (before : X → X → Bool) (is : Strict before) where
+  -- items that a value of theirs fixes have it once in a list in order
+  pub apart-by : {Y : Type 0} (f : X → Y) (g : Y → X) (xs : List X) → ascending before xs ≡ true → ((x : X) → Among x xs → x ≡ g (f x)) → Apart (map f xs)
+  apart-by f g [] a s = tt
+  apart-by f g (x ∷ xs) a s =
+      let h = and-parts (all (before x) xs) (ascending before xs) a in
+      ((λ m.
+          let k = among-map f (f x) xs m in
+          let same : k .0 ≡ x = s (k .0) (inr (k .1)) ∙ ap g (sym (k .2)) ∙ sym (s x (inl refl)) in
+          is .self x (ap (before x) (sym same) ∙ all-among (before x) xs (k .0) (h .0) (k .1))),
+       apart-by f g xs (h .1) (λ z m. s z (inr m)))
+
   -- an item that is not there yet is put in order
   pub ascending-put : (x : X) (ys : List X) → ascending before ys ≡ true → (Among x ys → ⊥) → ascending before (insert before x ys) ≡ true
   ascending-put x ys a ne =
