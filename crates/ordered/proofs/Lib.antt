@@ -1,2 +1,4 @@
 pub mod Moves
 pub mod Order
+pub mod Members
+pub mod Sorted

@@ -1,0 +1,8 @@
+pub mod Orders
+pub mod Counting
+pub mod Rising
+pub mod Lining
+pub mod Gathers
+pub mod Shows
+pub mod Fixes
+pub mod Turns

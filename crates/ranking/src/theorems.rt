@@ -1,0 +1,12 @@
+//! What holds of every list that is shown.
+ghost use Rattle.ranking.specs.Theorems.{Steps-show, Answer-fixed, Lines-costed, Counts-bounded};
+
+/// The steps of a listing show the cheapest fitting offers, whatever the offers are; no other list and count would do;
+/// each offer shown was costed; no more are shown than costed, and no more costed than fit.
+pub fn rules_of_a_list()
+    ensures shown { λ _. ⌜ Steps-show ⌝ }
+    ensures fixed { λ _. ⌜ Answer-fixed ⌝ }
+    ensures costed { λ _. ⌜ Lines-costed ⌝ }
+    ensures bounded { λ _. ⌜ Counts-bounded ⌝ }
+{
+}

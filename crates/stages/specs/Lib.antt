@@ -1,0 +1,4 @@
+pub mod Lines
+pub mod Cutting
+pub mod Stages
+pub mod Refusals
