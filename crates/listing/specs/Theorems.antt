@@ -1,0 +1,15 @@
+-- What holds of every list that is shown. Assumes nothing.
+use mathlib.Core.Path.{_≡_}
+use mathlib.Core.List.{List}
+use Prim.Native.Nat.{ℕ}
+use Rattle.tariff.specs.Totals.{Meaning}
+use Rattle.catalogue.specs.Books.{Book}
+use Rattle.stages.specs.declared.line.Line.{Line}
+use Rattle.listing.specs.Enquiries.{EnquiryData}
+use Rattle.listing.specs.Shown.{Shown}
+
+-- two answers that show such a list have the same lines and the same count
+abbrev pub List-fixed : Type 1
+List-fixed =
+    {T : Type 0} (m : Meaning T) (b : Book T) (q : EnquiryData) (ls ms : List Line) (n k : ℕ)
+    → Shown m b q ls n → Shown m b q ms k → (ls ≡ ms) × (n ≡ k)
