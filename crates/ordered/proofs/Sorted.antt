@@ -63,19 +63,20 @@ module _ {X : Type 0} (before : X → X → Bool) (is : Strict before) where
   pub apart-by : {Y : Type 0} (f : X → Y) (g : Y → X) (xs : List X) → ascending before xs ≡ true → ((x : X) → Among x xs → x ≡ g (f x)) → Apart (map f xs)
   apart-by f g [] a s = tt
   apart-by f g (x ∷ xs) a s =
-      let h = and-parts (all (before x) xs) (ascending before xs) a in
-      ((λ m.
-          let k = among-map f (f x) xs m in
-          let same : k .0 ≡ x = s (k .0) (inr (k .1)) ∙ ap g (sym (k .2)) ∙ sym (s x (inl refl)) in
-          is .self x (ap (before x) (sym same) ∙ all-among (before x) xs (k .0) (h .0) (k .1))),
-       apart-by f g xs (h .1) (λ z m. s z (inr m)))
+      let h = and-parts (all (before x) xs) (ascending before xs) a in (
+        (λ m.
+            let k = among-map f (f x) xs m in
+            let same : k .0 ≡ x = s (k .0) (inr (k .1)) ∙ ap g (sym (k .2)) ∙ sym (s x (inl refl)) in
+            is .self x (ap (before x) (sym same) ∙ all-among (before x) xs (k .0) (h .0) (k .1))),
+        apart-by f g xs (h .1) (λ z m. s z (inr m)),
+      )
 
   -- an item that is not there yet is put in order
   pub ascending-put : (x : X) (ys : List X) → ascending before ys ≡ true → (Among x ys → ⊥) → ascending before (insert before x ys) ≡ true
   ascending-put x ys a ne =
       ascending-insert before (is .trans) x ys a
       (among-all (λ y. before x y || before y x) ys (λ y m.
-        ⊎-elim (or-left _ _) (λ f. or-right _ _ (is .other x y f (λ e. ne (subst (λ z. Among z ys) (sym e) m)))) (cases-bool (before x y))))
+      ⊎-elim (or-left _ _) (λ f. or-right _ _ (is .other x y f (λ e. ne (subst (λ z. Among z ys) (sym e) m)))) (cases-bool (before x y))))
 
   -- two lists in order with the same items are equal
   pub ascending-same : (xs ys : List X) → ascending before xs ≡ true → ascending before ys ≡ true
@@ -87,13 +88,13 @@ module _ {X : Type 0} (before : X → X → Bool) (is : Strict before) where
       let h = and-parts (all (before x) xs) (ascending before xs) a in
       let k = and-parts (all (before y) ys) (ascending before ys) b in
       let first : x ≡ y =
-            ⊎-elim (λ e. e)
-            (λ m. ⊎-elim sym
-              (λ n. absurd (is .self x (is .trans x y x (all-among (before x) xs y (h .0) n) (all-among (before y) ys x (k .0) m))))
-              (g y (inl refl)))
-            (f x (inl refl)) in
+      ⊎-elim (λ e. e)
+      (λ m. ⊎-elim sym
+      (λ n. absurd (is .self x (is .trans x y x (all-among (before x) xs y (h .0) n) (all-among (before y) ys x (k .0) m))))
+      (g y (inl refl)))
+      (f x (inl refl)) in
       let down : (z : X) → Among z xs → Among z ys = λ z m.
-            ⊎-elim (λ e. absurd (is .self x (ap (before x) (first ∙ sym e) ∙ all-among (before x) xs z (h .0) m))) (λ n. n) (f z (inr m)) in
+      ⊎-elim (λ e. absurd (is .self x (ap (before x) (first ∙ sym e) ∙ all-among (before x) xs z (h .0) m))) (λ n. n) (f z (inr m)) in
       let up : (z : X) → Among z ys → Among z xs = λ z m.
-            ⊎-elim (λ e. absurd (is .self y (ap (before y) (sym first ∙ sym e) ∙ all-among (before y) ys z (k .0) m))) (λ n. n) (g z (inr m)) in
+      ⊎-elim (λ e. absurd (is .self y (ap (before y) (sym first ∙ sym e) ∙ all-among (before y) ys z (k .0) m))) (λ n. n) (g z (inr m)) in
       ap (λ z. z ∷ xs) first ∙ ap (λ zs. y ∷ zs) (ascending-same xs ys (h .1) (k .1) down up)

@@ -60,18 +60,18 @@ without-one t [] e = absurd (both-ways false refl e)
 without-one t (u ∷ us) e =
     cond-both (eqb t u) (without t us) (u ∷ without t us) (λ zs. suc (different zs) ≡ different (u ∷ us))
     (λ s. let same = eqb-true t u s in
-      ⊎-elim
-      (λ o. without-one t us o ∙ sym (cond-true _ _ _ (ap (λ n. occurs n us) (sym same) ∙ o)))
-      (λ o. ap (λ zs. suc (different zs)) (without-absent t us o) ∙ sym (cond-false _ _ _ (ap (λ n. occurs n us) (sym same) ∙ o)))
-      (cases-bool (occurs t us)))
+    ⊎-elim
+    (λ o. without-one t us o ∙ sym (cond-true _ _ _ (ap (λ n. occurs n us) (sym same) ∙ o)))
+    (λ o. ap (λ zs. suc (different zs)) (without-absent t us o) ∙ sym (cond-false _ _ _ (ap (λ n. occurs n us) (sym same) ∙ o)))
+    (cases-bool (occurs t us)))
     (λ s.
-      let there : occurs t us ≡ true = ⊎-elim (λ h. absurd (both-ways _ s h)) (λ h. h) (or-cases (eqb t u) (occurs t us) e) in
-      let rest = without-one t us there in
-      let same = occurs-without t u us (λ h. eqb-false t u s (sym h)) in
-      ⊎-elim
-      (λ o. ap suc (cond-true _ _ _ (same ∙ o)) ∙ rest ∙ sym (cond-true _ _ _ o))
-      (λ o. ap suc (cond-false _ _ _ (same ∙ o)) ∙ ap suc rest ∙ sym (cond-false _ _ _ o))
-      (cases-bool (occurs u us)))
+    let there : occurs t us ≡ true = ⊎-elim (λ h. absurd (both-ways _ s h)) (λ h. h) (or-cases (eqb t u) (occurs t us) e) in
+    let rest = without-one t us there in
+    let same = occurs-without t u us (λ h. eqb-false t u s (sym h)) in
+    ⊎-elim
+    (λ o. ap suc (cond-true _ _ _ (same ∙ o)) ∙ rest ∙ sym (cond-true _ _ _ o))
+    (λ o. ap suc (cond-false _ _ _ (same ∙ o)) ∙ ap suc rest ∙ sym (cond-false _ _ _ o))
+    (cases-bool (occurs u us)))
 
 -- a list whose numbers are all in another has no more different ones
 pub different-within : (ts us : List ℕ) → ((t : ℕ) → Among t ts → Among t us) → different ts ≤ different us
@@ -80,8 +80,8 @@ different-within (t ∷ ts) us f =
     cond-both (occurs t ts) (different ts) (suc (different ts)) (λ n. n ≤ different us)
     (λ _. different-within ts us (λ v m. f v (inr m)))
     (λ o.
-      let less = different-within ts (without t us) (λ v m. without-other t v us (λ e. both-ways _ o (among-occurs t ts (subst (λ n. Among n ts) e m))) (f v (inr m))) in
-      omega (arith, less, without-one t us (among-occurs t us (f t (inl refl)))))
+    let less = different-within ts (without t us) (λ v m. without-other t v us (λ e. both-ways _ o (among-occurs t ts (subst (λ n. Among n ts) e m))) (f v (inr m))) in
+    omega (arith, less, without-one t us (among-occurs t us (f t (inl refl)))))
 
 pub different-same : (ts us : List ℕ) → ((t : ℕ) → Among t ts → Among t us) → ((t : ℕ) → Among t us → Among t ts) → different ts ≡ different us
 different-same ts us f g = omega (arith, different-within ts us f, different-within us ts g)

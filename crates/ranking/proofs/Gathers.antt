@@ -20,7 +20,7 @@ use Rattle.ranking.specs.declared.queued.Queued.{Queued}
 use Rattle.ranking.specs.Offers.{Offer, offer-at}
 use Rattle.ranking.specs.Totals.{totals, places, different}
 use Rattle.ranking.specs.Costing.{Ends, totals-of}
-use Rattle.ranking.specs.Listing.{line-at, gathered-on, gathered}
+use Rattle.ranking.specs.Steps.{line-at, gathered-on, gathered}
 use Rattle.ranking.proofs.Orders.{line-order}
 use Rattle.ranking.proofs.Counting.{different-same}
 
@@ -87,11 +87,11 @@ module _ (os : List Offer) where
       (ascending-put earlier line-order new ls a (λ m. ne x (inl refl) (map-among (λ (l : Line). l .place) new ls m)))
       (apart .1)
       (λ y m n.
-        let h = among-map (λ (l : Line). l .place) (y .place) (insert earlier new ls) n in
-        ⊎-elim
-        (λ e. apart .0 (subst (λ p. Among p (map (λ (z : Queued). z .place) xs)) (h .2 ∙ ap (λ (l : Line). l .place) e) (map-among (λ (z : Queued). z .place) y xs m)))
-        (λ k. ne y (inr m) (subst (λ p. Among p (places ls)) (sym (h .2)) (map-among (λ (l : Line). l .place) (h .0) ls k)))
-        (among-insert earlier (h .0) new ls (h .1)))
+      let h = among-map (λ (l : Line). l .place) (y .place) (insert earlier new ls) n in
+      ⊎-elim
+      (λ e. apart .0 (subst (λ p. Among p (map (λ (z : Queued). z .place) xs)) (h .2 ∙ ap (λ (l : Line). l .place) e) (map-among (λ (z : Queued). z .place) y xs m)))
+      (λ k. ne y (inr m) (subst (λ p. Among p (places ls)) (sym (h .2)) (map-among (λ (l : Line). l .place) (h .0) ls k)))
+      (among-insert earlier (h .0) new ls (h .1)))
 
   -- they are in order, where no place comes twice
   pub gathered-order : (xs : List Queued) → Apart (map (λ (x : Queued). x .place) xs) → ascending earlier (gathered os xs) ≡ true

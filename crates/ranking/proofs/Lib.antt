@@ -3,6 +3,6 @@ pub mod Counting
 pub mod Rising
 pub mod Lining
 pub mod Gathers
-pub mod Shows
+pub mod Meets
 pub mod Fixes
 pub mod Turns

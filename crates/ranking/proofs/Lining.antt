@@ -35,15 +35,17 @@ queue-lined os (suc p) =
     (λ fit. record {
       in-order = ascending-put sooner queue-order (queued-at os p) q (h .in-order) (λ m. omega (arith, h .all-fit (queued-at os p) m .0));
       all-fit = λ x m. ⊎-elim
-        (λ e. let at = ap (λ (z : Queued). z .place) e in (omega arith, subst (Fitting os) (sym at) fit, e ∙ ap (queued-at os) (sym at)))
-        (λ k. let s = h .all-fit x k in (omega (arith, s .0), s .1, s .2))
-        (among-insert sooner x (queued-at os p) q m);
+          (λ e. let at = ap (λ (z : Queued). z .place) e in (omega arith, subst (Fitting os) (sym at) fit, e ∙ ap (queued-at os) (sym at)))
+          (λ k. let s = h .all-fit x k in (omega (arith, s .0), s .1, s .2))
+          (among-insert sooner x (queued-at os p) q m);
       none-missing = λ i l f. insert-among sooner (queued-at os i) (queued-at os p) q
-        (⊎-elim (λ e. inl (ap (queued-at os) e)) (λ e. inr (h .none-missing i (omega arith) f)) (cases-eq i p)) })
+          (⊎-elim (λ e. inl (ap (queued-at os) e)) (λ e. inr (h .none-missing i (omega arith) f)) (cases-eq i p));
+    })
     (λ no. record {
       in-order = h .in-order;
       all-fit = λ x m. let s = h .all-fit x m in (omega (arith, s .0), s .1, s .2);
-      none-missing = λ i l f. ⊎-elim (λ e. absurd (both-ways _ no (ap (λ n. offer-at os n .fits) (sym e) ∙ f))) (λ e. h .none-missing i (omega arith) f) (cases-eq i p) })
+      none-missing = λ i l f. ⊎-elim (λ e. absurd (both-ways _ no (ap (λ n. offer-at os n .fits) (sym e) ∙ f))) (λ e. h .none-missing i (omega arith) f) (cases-eq i p);
+    })
 
 -- a place that fits is a place
 pub fits-within : (os : List Offer) (p : ℕ) → Fitting os p → p < length os
@@ -57,7 +59,8 @@ queue-is os =
     record {
       in-order = h .in-order;
       all-fit = λ x m. let s = h .all-fit x m in (s .1, s .2);
-      none-missing = λ p f. h .none-missing p (fits-within os p f) f }
+      none-missing = λ p f. h .none-missing p (fits-within os p f) f;
+    }
 
 -- and there is no other
 pub queue-only : (os : List Offer) (q : List Queued) → Lined-up os q → q ≡ queue os
@@ -93,16 +96,16 @@ queue-put-memory os p n f xs ys h q fit e is =
 fitting-push : (xs : List Offer) (o : Offer) → fitting (xs ++ o ∷ []) ≡ fitting (o ∷ xs)
 fitting-push [] o = refl
 fitting-push (x ∷ xs) o = let h = fitting-push xs o in elim (x .fits) as (λ b. cond b (suc (fitting (xs ++ o ∷ []))) (fitting (xs ++ o ∷ [])) ≡ cond (o .fits) (suc (cond b (suc (fitting xs)) (fitting xs))) (cond b (suc (fitting xs)) (fitting xs))) [
-    true ↦ ap suc h ∙ cond-both (o .fits) (suc (fitting xs)) (fitting xs) (λ n. suc n ≡ cond (o .fits) (suc (suc (fitting xs))) (suc (fitting xs))) (λ e. sym (cond-true _ _ _ e)) (λ e. sym (cond-false _ _ _ e))
+  | true ↦ ap suc h ∙ cond-both (o .fits) (suc (fitting xs)) (fitting xs) (λ n. suc n ≡ cond (o .fits) (suc (suc (fitting xs))) (suc (fitting xs))) (λ e. sym (cond-true _ _ _ e)) (λ e. sym (cond-false _ _ _ e))
   | false ↦ h
-  ]
+]
 
 pub queue-length : (os : List Offer) (p : ℕ) → p ≤ length os → length (queue-below os p) ≡ fitting (take p os)
 queue-length os zero h = refl
 queue-length os (suc p) h =
     let rest = queue-length os p (omega arith) in
     let more : fitting (take (suc p) os) ≡ fitting (offer-at os p ∷ take p os) =
-          ap (λ n. fitting (take n os)) (sym (add-one p)) ∙ ap fitting (take-more os p no-offer (omega arith)) ∙ fitting-push (take p os) (offer-at os p) in
+    ap (λ n. fitting (take n os)) (sym (add-one p)) ∙ ap fitting (take-more os p no-offer (omega arith)) ∙ fitting-push (take p os) (offer-at os p) in
     cond-both (offer-at os p .fits) (insert sooner (queued-at os p) (queue-below os p)) (queue-below os p) (λ q. length q ≡ fitting (take (suc p) os))
     (λ f. length-insert sooner (queued-at os p) (queue-below os p) ∙ ap suc rest ∙ sym (more ∙ cond-true _ _ _ f))
     (λ f. rest ∙ sym (more ∙ cond-false _ _ _ f))

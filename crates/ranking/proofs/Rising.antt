@@ -32,14 +32,14 @@ changes-different t (y ∷ ys) a low =
     let b = and-parts (all (earlier y) ys) (ascending earlier ys) a .1 in
     cond-both (eqb (y .total) t) (changes t ys) (suc (changes (y .total) ys)) (λ n. suc n ≡ different (t ∷ y .total ∷ totals ys))
     (λ e. let same = eqb-true _ _ e in
-      changes-different t ys b (λ z m. low z (inr m))
-      ∙ ap (λ n. different (n ∷ totals ys)) (sym same)
-      ∙ sym (different-old t (y .total ∷ totals ys) (inl (sym same))))
+    changes-different t ys b (λ z m. low z (inr m))
+    ∙ ap (λ n. different (n ∷ totals ys)) (sym same)
+    ∙ sym (different-old t (y .total ∷ totals ys) (inl (sym same))))
     (λ e.
-      let less : t < y .total = omega (arith, eqb-false _ _ e, low y (inl refl)) in
-      ap suc (changes-different (y .total) ys b (rises y ys a))
-      ∙ sym (different-new t (y .total ∷ totals ys)
-        (⊎-elim (λ s. omega arith) (λ m. let h = among-map (λ l. l .total) t ys m in omega (arith, rises y ys a (h .0) (h .1), h .2)))))
+    let less : t < y .total = omega (arith, eqb-false _ _ e, low y (inl refl)) in
+    ap suc (changes-different (y .total) ys b (rises y ys a))
+    ∙ sym (different-new t (y .total ∷ totals ys)
+    (⊎-elim (λ s. omega arith) (λ m. let h = among-map (λ l. l .total) t ys m in omega (arith, rises y ys a (h .0) (h .1), h .2)))))
 
 pub neighbouring-different : (ls : List Line) → ascending earlier ls ≡ true → neighbouring ls ≡ different (totals ls)
 neighbouring-different [] a = refl
@@ -59,21 +59,22 @@ cut-off w ls k a f =
     ⊎-elim
     (λ e. inl (e, omega (arith, f .within, kept, ap (λ zs. different (totals zs)) (take-all k ls (omega arith)))))
     (λ l.
-      let next : different (x .total ∷ us) ≡ w + 1 =
-            sym (different-push (x .total) us)
-            ∙ ap different (sym (map-more (λ (z : Line). z .total) ls k blank (l .0)))
-            ∙ sym (neighbouring-different (take (k + 1) ls) (ascending-take earlier (k + 1) ls a))
-            ∙ l .1 in
-      let new : Among (x .total) us → ⊥ = λ m. omega (arith, different-old (x .total) us m, next, kept, f .within) in
-      inr (record {
-        exact = omega (arith, different-new (x .total) us new, next);
-        higher = λ u v m n.
+    let next : different (x .total ∷ us) ≡ w + 1 =
+    sym (different-push (x .total) us)
+    ∙ ap different (sym (map-more (λ (z : Line). z .total) ls k blank (l .0)))
+    ∙ sym (neighbouring-different (take (k + 1) ls) (ascending-take earlier (k + 1) ls a))
+    ∙ l .1 in
+    let new : Among (x .total) us → ⊥ = λ m. omega (arith, different-old (x .total) us m, next, kept, f .within) in
+    inr (record {
+      exact = omega (arith, different-new (x .total) us new, next);
+      higher = λ u v m n.
           let first = ascending-first earlier k ls blank (l .0) a in
           let at : Among x (drop k ls) = first-there k ls (l .0) in
           let low = earlier-total u x (ascending-cut earlier k ls a u x m at) in
           let apart : u .total ≡ x .total → ⊥ = λ e. new (subst (λ t. Among t us) e (map-among (λ z. z .total) u (take k ls) m)) in
           let up : x .total ≤ v .total = ⊎-elim (λ e. omega (arith, ap (λ (z : Line). z .total) e)) (λ b. earlier-total x v b) (first v n) in
-          omega arith }))
+          omega arith;
+    }))
     (f .full)
   where
     first-there : (k : ℕ) (ls : List Line) → k < length ls → Among (getD ls k blank) (drop k ls)
@@ -84,10 +85,12 @@ cut-off w ls k a f =
 -- the test by which taking ends decides whether it does
 pub over-ends : (w f : ℕ) (ls : List Line) → ascending earlier ls ≡ true → Decides (over w f ls) (Ends w (totals ls) f)
 over-ends w f ls a =
-    let count = neighbouring-different ls a in
-    (λ t.
-      let h = and-parts (leb w (neighbouring ls)) (all (under f) ls) t in
-      (omega (arith, leb-true w (neighbouring ls) (h .0)),
-       λ u m. let k = among-map (λ (l : Line). l .total) u ls m in omega (arith, ltb-true _ _ (all-among (under f) ls (k .0) (h .1) (k .1)), k .2)),
-     λ e. and-from _ _ (le-leb w (neighbouring ls) (omega (arith, e .0)))
-       (among-all (under f) ls (λ l m. lt-ltb _ _ (e .1 (l .total) (map-among (λ (z : Line). z .total) l ls m)))))
+    let count = neighbouring-different ls a in (
+      λ t.
+          let h = and-parts (leb w (neighbouring ls)) (all (under f) ls) t in (
+            omega (arith, leb-true w (neighbouring ls) (h .0)),
+            λ u m. let k = among-map (λ (l : Line). l .total) u ls m in omega (arith, ltb-true _ _ (all-among (under f) ls (k .0) (h .1) (k .1)), k .2),
+          ),
+      λ e. and-from _ _ (le-leb w (neighbouring ls) (omega (arith, e .0)))
+          (among-all (under f) ls (λ l m. lt-ltb _ _ (e .1 (l .total) (map-among (λ (z : Line). z .total) l ls m)))),
+    )

@@ -34,7 +34,7 @@ pub record Taken (wanted : ℕ) (os : List Offer) (q : List Queued) (n : ℕ) : 
   pub ends : (n ≡ length q) ⊎ Ends-before wanted os q n
 
 -- n offers are costed
-pub record Costed (wanted : ℕ) (os : List Offer) (n : ℕ) : Type 0 where
+pub record Counted (wanted : ℕ) (os : List Offer) (n : ℕ) : Type 0 where
   pub in-turn : List Queued
   pub is-queue : Lined-up os in-turn
   pub taken : Taken wanted os in-turn n

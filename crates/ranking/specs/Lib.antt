@@ -2,6 +2,6 @@ pub mod Offers
 pub mod Totals
 pub mod Queues
 pub mod Costing
-pub mod Showing
-pub mod Listing
+pub mod Cheapest
+pub mod Steps
 pub mod Theorems

@@ -17,10 +17,10 @@ returns-then-lines-eq0 c =
 pub loop-i-again : need.loop-i-again
 loop-i-again c =
     elim (c .if-total-last .came) [
-      then-total-last w ↦
-        simp (w .count-is, w .last-is) (let more = changes-next (c .loop-i .last) (c .args .lines .now) (c .loop-i .i) (c .loop-i-test .taken) (w .if-total-last .taken) in (omega arith, omega arith))
-    | else-total-last w ↦
-        simp (w .count-is, w .last-is) (let same = changes-same (c .loop-i .last) (c .args .lines .now) (c .loop-i .i) (c .loop-i-test .taken) (w .if-total-last .left) in (omega arith, omega arith))
+      | then-total-last w ↦
+          simp (w .count-is, w .last-is) (let more = changes-next (c .loop-i .last) (c .args .lines .now) (c .loop-i .i) (c .loop-i-test .taken) (w .if-total-last .taken) in (omega arith, omega arith))
+      | else-total-last w ↦
+          simp (w .count-is, w .last-is) (let same = changes-same (c .loop-i .last) (c .args .lines .now) (c .loop-i .i) (c .loop-i-test .taken) (w .if-total-last .left) in (omega arith, omega arith))
     ]
 
 pub returns : need.returns

@@ -10,14 +10,14 @@ use Rattle.stages.specs.declared.line.Line.{Line}
 use Rattle.stages.specs.Lines.{earlier}
 use Rattle.ranking.specs.Offers.{Offer, offer-at, Fitting}
 use Rattle.ranking.specs.Totals.{totals, places, different}
-use Rattle.ranking.specs.Costing.{Costed}
+use Rattle.ranking.specs.Costing.{Counted}
 
 -- no fitting place is left off these lines
 abbrev pub None-left-off : List Offer → List Line → Type 0
 None-left-off os ls = (p : ℕ) → Fitting os p → Among p (places ls)
 
 -- the lines shown
-pub record Shown (wanted : ℕ) (os : List Offer) (ls : List Line) : Type 0 where
+pub record Cheapest (wanted : ℕ) (os : List Offer) (ls : List Line) : Type 0 where
   -- a fitting place left off has a higher total than every line
   pub left-off-dearer : (p : ℕ) → Fitting os p → (Among p (places ls) → ⊥) → (l : Line) → Among l ls → l .total < offer-at os p .total
   -- each line is a fitting place at its total
@@ -30,6 +30,6 @@ pub record Shown (wanted : ℕ) (os : List Offer) (ls : List Line) : Type 0 wher
   pub in-order : ascending earlier ls ≡ true
 
 -- what a list answers: the lines shown, and how many offers were costed
-pub record Listed (wanted : ℕ) (os : List Offer) (ls : List Line) (n : ℕ) : Type 0 where
-  pub shows : Shown wanted os ls
-  pub costs : Costed wanted os n
+pub record Ranking (wanted : ℕ) (os : List Offer) (ls : List Line) (n : ℕ) : Type 0 where
+  pub cheapest : Cheapest wanted os ls
+  pub counted : Counted wanted os n
