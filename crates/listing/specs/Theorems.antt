@@ -9,7 +9,6 @@ use Rattle.listing.specs.Enquiries.{EnquiryData}
 use Rattle.listing.specs.Shown.{Shown}
 
 -- two answers that show such a list have the same lines and the same count
-abbrev pub List-fixed : Type 1
-List-fixed =
-    {T : Type 0} (m : Meaning T) (b : Book T) (q : EnquiryData) (ls ms : List Line) (n k : ℕ)
-    → Shown m b q ls n → Shown m b q ms k → (ls ≡ ms) × (n ≡ k)
+abbrev pub List-fixed : {T : Type 0} → Meaning T → Book T → EnquiryData → Type 0
+List-fixed m b q =
+    (ls ms : List Line) (n k : ℕ) → Shown m b q ls n → Shown m b q ms k → (ls ≡ ms) × (n ≡ k)

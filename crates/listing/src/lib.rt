@@ -5,7 +5,6 @@ pub mod listing;
 pub mod numbers;
 pub mod queueing;
 pub mod refusal;
-pub mod theorems;
 
 pub use enquiry::Enquiry;
 pub use listing::list;

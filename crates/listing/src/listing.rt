@@ -3,6 +3,7 @@ ghost use Rattle.tariff.specs.Totals.{meaning};
 ghost use Rattle.catalogue.specs.Held.{held};
 ghost use Rattle.listing.specs.Enquiries.{enquiry-data};
 ghost use Rattle.listing.specs.Answers.{List-answered};
+ghost use Rattle.listing.specs.Theorems.{List-fixed};
 use crate::enquiry::Enquiry;
 use crate::queueing::gather;
 use crate::queueing::line_up;
@@ -19,7 +20,8 @@ use usage::Uses;
 ///
 /// All memory behind the lines becomes place 0, total 0. A declined call leaves the memory as it was.
 pub fn list<T: Tariff>(catalogue: &Catalogue<T>, enquiry: &Enquiry, memory: &mut [Line]) -> Result<(usize, usize), Refusal>
-    ensures { λ r. ⌜ List-answered (meaning served drawn charged floor) (held (now (catalogue .entry))) (enquiry-data (now (enquiry .entry))) (now (memory .entry)) r (now (memory .exit)) ⌝ }
+    ensures answered { λ r. ⌜ List-answered (meaning served drawn charged floor) (held (now (catalogue .entry))) (enquiry-data (now (enquiry .entry))) (now (memory .entry)) r (now (memory .exit)) ⌝ }
+    ensures fixed { λ _. ⌜ List-fixed (meaning served drawn charged floor) (held (now (catalogue .entry))) (enquiry-data (now (enquiry .entry))) ⌝ }
 {
     let Ok(begun) = Gathering::begin(enquiry.length) else {
         return Err(Refusal::ListLength);

@@ -2,3 +2,4 @@ pub mod Moves
 pub mod Order
 pub mod Members
 pub mod Sorted
+pub mod Places
