@@ -11,7 +11,7 @@ use Rattle.std.proofs.shelf.Tests.{and-parts, and-from, or-left, or-right, case
 use Rattle.ordered.specs.Inserting.{insert}
 use Rattle.ordered.specs.Ascending.{all, ascending}
 use Rattle.ordered.specs.Members.{Among, Apart}
-use Rattle.ordered.proofs.Members.{all-among, among-all, among-append, append-among, among-map}
+use Rattle.ordered.proofs.Members.{all-among, among-all, append-among, among-map}
 use Rattle.ordered.proofs.Order.{ascending-insert}
 
 -- no item stands before itself, and of two that differ one stands before the other

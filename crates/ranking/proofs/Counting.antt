@@ -1,13 +1,13 @@
 -- How many numbers differ, by which numbers there are. Assumes nothing.
 use mathlib.Core.Path.{_≡_, refl, sym, ap, subst, _∙_}
-use mathlib.Core.List.{List, [], _∷_, _++_, map}
-use mathlib.Core.Bool.{Bool, true, false, cond, _||_}
-use mathlib.Core.Logic.{_⊎_, inl, inr, ⊎-elim}
-use Prim.Native.Nat.{ℕ, zero, suc, _+_, _≤_, _<_}
+use mathlib.Core.List.{List, [], _∷_, _++_}
+use mathlib.Core.Bool.{true, false, cond}
+use mathlib.Core.Logic.{inl, inr, ⊎-elim}
+use Prim.Native.Nat.{ℕ, suc, _≤_}
 use native.Mathlib.Omega.{arith}
 use lib.Dec.{eqb}
 use lib.ListN.{length}
-use Rattle.std.proofs.shelf.Tests.{cond-true, cond-false, cond-both, cases-bool, eqb-true, eqb-false, eq-eqb, ne-eqb, or-cases, or-left, or-right, or-parts, both-ways}
+use Rattle.std.proofs.shelf.Tests.{cond-true, cond-false, cond-both, cases-bool, eqb-true, eqb-false, eq-eqb, or-cases, or-left, or-right, or-parts, both-ways}
 use Rattle.ordered.specs.Members.{Among, Apart}
 use Rattle.ordered.proofs.Members.{among-append, append-among}
 use Rattle.ranking.specs.Totals.{occurs, different}

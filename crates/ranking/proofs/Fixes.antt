@@ -1,11 +1,10 @@
 -- The answer of a list is fixed, and its counts are bounded. Assumes nothing.
-use mathlib.Core.Path.{_≡_, refl, sym, ap, subst, _∙_}
-use mathlib.Core.List.{List, [], _∷_, _++_, map}
-use mathlib.Core.Bool.{true, false}
+use mathlib.Core.Path.{_≡_, sym, ap, subst, _∙_}
+use mathlib.Core.List.{List, _∷_, map}
 use mathlib.Core.Logic.{_⊎_, inl, inr, ⊎-elim}
-use Prim.Native.Nat.{ℕ, suc, _+_, _≤_, _<_}
+use Prim.Native.Nat.{ℕ, _≤_, _<_}
 use native.Mathlib.Omega.{arith}
-use lib.ListN.{length, take, drop, getD}
+use lib.ListN.{take}
 use Rattle.std.proofs.shelf.Lists.{length-map, length-take-le}
 use Rattle.std.proofs.shelf.Tests.{cases-bool, cases-order, both-ways}
 use Rattle.ordered.specs.Members.{Among}
@@ -18,7 +17,7 @@ use Rattle.ranking.specs.Offers.{Offer, offer-at, Fitting, fitting, Floors-hol
 use Rattle.ranking.specs.Totals.{totals, places, occurs, different}
 use Rattle.ranking.specs.Queues.{queued-at, Lined-up, queue}
 use Rattle.ranking.specs.Costing.{totals-of, Taken, Counted}
-use Rattle.ranking.specs.Cheapest.{Cheapest, Ranking}
+use Rattle.ranking.specs.Cheapest.{Cheapest}
 use Rattle.ranking.specs.Steps.{line-at}
 use Rattle.ranking.specs.Theorems.{Answer-fixed, Lines-costed, Counts-bounded}
 use Rattle.ranking.proofs.Orders.{line-order}

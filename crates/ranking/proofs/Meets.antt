@@ -1,7 +1,7 @@
 -- The offers costed in turn, gathered and cut, are what a list answers. Assumes nothing.
-use mathlib.Core.Path.{_≡_, refl, sym, ap, subst, _∙_}
-use mathlib.Core.List.{List, [], _∷_, _++_, map}
-use mathlib.Core.Bool.{true, false}
+use mathlib.Core.Path.{_≡_, sym, ap, subst, _∙_}
+use mathlib.Core.List.{List}
+use mathlib.Core.Bool.{true}
 use mathlib.Core.Logic.{_⊎_, inl, inr, ⊎-elim}
 use Prim.Native.Nat.{ℕ, zero, suc, _+_, _≤_, _<_}
 use native.Mathlib.Omega.{arith}
@@ -20,14 +20,14 @@ use Rattle.stages.specs.Cutting.{keeps}
 use Rattle.stages.proofs.Falling.{keeps-falls}
 use Rattle.ranking.specs.declared.queued.Queued.{Queued}
 use Rattle.ranking.specs.Offers.{Offer, offer-at, Fitting, Floors-hold}
-use Rattle.ranking.specs.Totals.{totals, places, different}
+use Rattle.ranking.specs.Totals.{totals, different}
 use Rattle.ranking.specs.Queues.{sooner, queued-of, queued-at, Lined-up, queue}
 use Rattle.ranking.specs.Costing.{Ends, totals-of, Ends-before, Taken}
-use Rattle.ranking.specs.Cheapest.{None-left-off, Cheapest, Ranking}
+use Rattle.ranking.specs.Cheapest.{None-left-off, Cheapest}
 use Rattle.ranking.specs.Steps.{line-at, gathered, cut-lines}
 use Rattle.ranking.specs.Theorems.{Steps-show, Answer-stands}
 use Rattle.ranking.proofs.Orders.{line-order, sooner-floor}
-use Rattle.ranking.proofs.Rising.{Cut-off, cut-off}
+use Rattle.ranking.proofs.Rising.{cut-off}
 use Rattle.ranking.proofs.Lining.{queue-is, queue-apart}
 use Rattle.ranking.proofs.Gathers.{gathered-has, gathered-from, gathered-order, totals-from, totals-count}
 

@@ -1,6 +1,6 @@
 -- What holds of every list that is shown, over any offers. Assumes nothing.
 use mathlib.Core.Path.{_≡_}
-use mathlib.Core.List.{List, map}
+use mathlib.Core.List.{List}
 use Prim.Native.Nat.{ℕ, _≤_}
 use lib.ListN.{length, take}
 use Rattle.ordered.specs.Members.{Among}
