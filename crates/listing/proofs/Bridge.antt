@@ -88,10 +88,11 @@ module _ {T : Type 0} (m : Meaning T) (q : EnquiryData) (b : Book T) where
       let rest = placed-queue xs (λ y a. f y (inr a)) in
       let here = f x (inl refl) in
       let w = fit-at m q b (x .place) (here .0) in
-      let is : waits (w .0) ≡ x = waits-at (w .0) (w .2) ∙ (ap (queued-at (offers m b q)) (w .1) ∙ sym (here .1)) in
-      ( w .0 ∷ rest .0
-      , (λ o. ⊎-elim (λ e. subst (Fits m b q) (sym e) (w .2)) (λ a. rest .1 o a))
-      , ap (λ y. y ∷ map waits (rest .0)) is ∙ ap (λ ys. x ∷ ys) (rest .2) )
+      let is : waits (w .0) ≡ x = waits-at (w .0) (w .2) ∙ (ap (queued-at (offers m b q)) (w .1) ∙ sym (here .1)) in (
+        w .0 ∷ rest .0,
+        (λ o. ⊎-elim (λ e. subst (Fits m b q) (sym e) (w .2)) (λ a. rest .1 o a)),
+        ap (λ y. y ∷ map waits (rest .0)) is ∙ ap (λ ys. x ∷ ys) (rest .2),
+      )
 
   -- the totals of fitting offers
   totals-same : (os : List (Placed T)) → ((o : Placed T) → Among o os → Fits m b q o) → totals-of (offers m b q) (map waits os) ≡ map (total-of m q) os
@@ -104,27 +105,29 @@ module _ {T : Type 0} (m : Meaning T) (q : EnquiryData) (b : Book T) where
   turn-lines : (os : List (Placed T)) → In-turn m b q os → Lined-up (offers m b q) (map waits os)
   turn-lines os t = record {
     in-order = nth-ascending sooner (map waits os) (λ i j x y l h k.
-      let o = nth-of-map waits os i x h in
-      let p = nth-of-map waits os j y k in
-      subst (λ z. sooner z y ≡ true) (sym (o .2)) (subst (λ z. sooner (waits (o .0)) z ≡ true) (sym (p .2)) (says-sooner (o .0) (p .0) (t .by-floor i j (o .0) (p .0) l (o .1) (p .1)))));
+        let o = nth-of-map waits os i x h in
+        let p = nth-of-map waits os j y k in
+        subst (λ z. sooner z y ≡ true) (sym (o .2)) (subst (λ z. sooner (waits (o .0)) z ≡ true) (sym (p .2)) (says-sooner (o .0) (p .0) (t .by-floor i j (o .0) (p .0) l (o .1) (p .1)))));
     all-fit = λ x a.
-      let o = among-map waits x os a in
-      let f = t .all-fit (o .0) (o .1) in
-      let place : x .place ≡ o .0 .place = ap (λ (z : Queued). z .place) (o .2) in
-      (subst (Fitting (offers m b q)) (sym place) (fits-fit m q b (o .0) f), o .2 ∙ (waits-at (o .0) f ∙ ap (queued-at (offers m b q)) (sym place)));
+        let o = among-map waits x os a in
+        let f = t .all-fit (o .0) (o .1) in
+        let place : x .place ≡ o .0 .place = ap (λ (z : Queued). z .place) (o .2) in
+        (subst (Fitting (offers m b q)) (sym place) (fits-fit m q b (o .0) f), o .2 ∙ (waits-at (o .0) f ∙ ap (queued-at (offers m b q)) (sym place)));
     none-missing = λ p fit.
-      let w = fit-at m q b p fit in
-      subst (λ z. Among z (map waits os)) (waits-at (w .0) (w .2) ∙ ap (queued-at (offers m b q)) (w .1)) (map-among waits (w .0) os (t .none-missing (w .0) (w .2))) }
+        let w = fit-at m q b p fit in
+        subst (λ z. Among z (map waits os)) (waits-at (w .0) (w .2) ∙ ap (queued-at (offers m b q)) (w .1)) (map-among waits (w .0) os (t .none-missing (w .0) (w .2)));
+  }
 
   lines-turn : (os : List (Placed T)) → ((o : Placed T) → Among o os → Fits m b q o) → Lined-up (offers m b q) (map waits os) → In-turn m b q os
   lines-turn os f l = record {
     all-fit = f;
     none-missing = λ o fit.
-      let a = l .none-missing (o .place) (fits-fit m q b o fit) in
-      let w = among-map waits _ os a in
-      let place : o .place ≡ w .0 .place = ap (λ (z : Queued). z .place) (w .2) in
-      subst (λ z. Among z os) (sym (fits-same m q b o (w .0) fit (f (w .0) (w .1)) place)) (w .1);
-    by-floor = λ i j o p h at to. sooner-says o p (ascending-nth sooner (map waits os) (l .in-order) i j (waits o) (waits p) h (nth-map waits os i o at) (nth-map waits os j p to)) }
+        let a = l .none-missing (o .place) (fits-fit m q b o fit) in
+        let w = among-map waits _ os a in
+        let place : o .place ≡ w .0 .place = ap (λ (z : Queued). z .place) (w .2) in
+        subst (λ z. Among z os) (sym (fits-same m q b o (w .0) fit (f (w .0) (w .1)) place)) (w .1);
+    by-floor = λ i j o p h at to. sooner-says o p (ascending-nth sooner (map waits os) (l .in-order) i j (waits o) (waits p) h (nth-map waits os i o at) (nth-map waits os j p to));
+  }
 
   -- what is gathered before a place of the queue, and the floor there
   gathered-same : (os : List (Placed T)) → ((o : Placed T) → Among o os → Fits m b q o) → (k : ℕ) → totals-of (offers m b q) (take k (map waits os)) ≡ map (total-of m q) (take k os)
@@ -159,7 +162,8 @@ module _ {T : Type 0} (m : Meaning T) (q : EnquiryData) (b : Book T) where
         in-turn = lines-turn os f (subst (Lined-up (offers m b q)) (sym (w .2)) (c .is-queue));
         within = omega (arith, taken .within);
         goes-on = λ k o h at e. taken .goes-on k h (says-ends os f k o at e);
-        ends = λ o at. ⊎-elim (λ e. absurd (omega (arith, nth-below os n o at))) (λ e. ends-says os f n o at e) (taken .ends) }
+        ends = λ o at. ⊎-elim (λ e. absurd (omega (arith, nth-below os n o at))) (λ e. ends-says os f n o at e) (taken .ends);
+      }
 
   counted-by : (n : ℕ) → Costed m b q n → Counted (q .length) (offers m b q) n
   counted-by n c =
@@ -172,57 +176,73 @@ module _ {T : Type 0} (m : Meaning T) (q : EnquiryData) (b : Book T) where
         taken = record {
           within = omega (arith, c .within);
           goes-on = λ k h e.
-            let w = nth-within os k (omega (arith, c .within)) in
-            c .goes-on k (w .0) h (w .1) (ends-says os f k (w .0) (w .1) e);
+              let w = nth-within os k (omega (arith, c .within)) in
+              c .goes-on k (w .0) h (w .1) (ends-says os f k (w .0) (w .1) e);
           ends = ⊎-elim
-            (λ (h : n < length os). let w = nth-within os n h in inr (says-ends os f n (w .0) (w .1) (c .ends (w .0) (w .1))))
-            (λ (h : length os ≤ n). inl (omega (arith, c .within)))
-            (cases-lt n (length os)) } }
+              (λ (h : n < length os). let w = nth-within os n h in inr (says-ends os f n (w .0) (w .1) (c .ends (w .0) (w .1))))
+              (λ (h : length os ≤ n). inl (omega (arith, c .within)))
+              (cases-lt n (length os));
+        };
+      }
 
   -- a list over plain offers is a list over the book
   pub shown-by : (ls : List Line) (n : ℕ) → Apart-book b → Ranking (q .length) (offers m b q) ls n → Shown m b q ls n
   shown-by ls n apart r = record {
     left-off-dearer = λ o f out l i. subst (λ t. l .total < t) (fits-total m q b o f) (r .cheapest .left-off-dearer (o .place) (fits-fit m q b o f) out l i);
     lines-fit = λ l i.
-      let s = r .cheapest .lines-fit l i in
-      let w = fit-at m q b (l .place) (s .0) in
-      record {
-        offer = w .0;
-        shows = record {
-          fits = w .2;
-          at-place = sym (w .1);
-          at-total = s .1 ∙ (ap (λ p. offer-at (offers m b q) p .total) (sym (w .1)) ∙ fits-total m q b (w .0) (w .2)) } };
+        let s = r .cheapest .lines-fit l i in
+        let w = fit-at m q b (l .place) (s .0) in
+        record {
+          offer = w .0;
+          shows = record {
+            fits = w .2;
+            at-place = sym (w .1);
+            at-total = s .1 ∙ (ap (λ p. offer-at (offers m b q) p .total) (sym (w .1)) ∙ fits-total m q b (w .0) (w .2));
+          };
+        };
     place-once = r .cheapest .place-once;
     totals-wanted = ⊎-elim inl (λ e. inr (e .0, λ o f. e .1 (o .place) (fits-fit m q b o f))) (r .cheapest .totals-wanted);
     names-once = λ l k o p i j so sp names.
-      let met : Meeting b = record {
-            one = o .place; two = p .place; head = o .head; other = p .head; tariff = o .tariff; other-tariff = p .tariff;
-            at-one = so .fits .is-published; at-two = sp .fits .is-published; namesakes = names;
-            shares = record { day = q .day; on-one = so .fits .on-the-day; on-other = sp .fits .on-the-day } } in
-      so .at-place ∙ (apart met ∙ sym (sp .at-place));
+        let met : Meeting b = record {
+          one = o .place;
+          two = p .place;
+          head = o .head;
+          other = p .head;
+          tariff = o .tariff;
+          other-tariff = p .tariff;
+          at-one = so .fits .is-published;
+          at-two = sp .fits .is-published;
+          namesakes = names;
+          shares = record { day = q .day; on-one = so .fits .on-the-day; on-other = sp .fits .on-the-day };
+        } in
+        so .at-place ∙ (apart met ∙ sym (sp .at-place));
     in-order = λ i j l k h at to. earlier-says l k (ascending-nth earlier ls (r .cheapest .in-order) i j l k h at to);
-    count = costed-by n (r .counted) }
+    count = costed-by n (r .counted);
+  }
 
   -- and back
   ranking-by : (ls : List Line) (n : ℕ) → Shown m b q ls n → Ranking (q .length) (offers m b q) ls n
   ranking-by ls n s = record {
     cheapest = record {
       left-off-dearer = λ p fit out l i.
-        let w = fit-at m q b p fit in
-        subst (λ t. l .total < t) (sym (fits-total m q b (w .0) (w .2)) ∙ ap (λ x. offer-at (offers m b q) x .total) (w .1))
-        (s .left-off-dearer (w .0) (w .2) (λ a. out (subst (λ x. Among x (places ls)) (w .1) a)) l i);
+          let w = fit-at m q b p fit in
+          subst (λ t. l .total < t) (sym (fits-total m q b (w .0) (w .2)) ∙ ap (λ x. offer-at (offers m b q) x .total) (w .1))
+          (s .left-off-dearer (w .0) (w .2) (λ a. out (subst (λ x. Among x (places ls)) (w .1) a)) l i);
       lines-fit = λ l i.
-        let w = s .lines-fit l i in
-        let o = w .offer in
-        let sh = w .shows in
-        ( subst (Fitting (offers m b q)) (sym (sh .at-place)) (fits-fit m q b o (sh .fits))
-        , sh .at-total ∙ (sym (fits-total m q b o (sh .fits)) ∙ ap (λ x. offer-at (offers m b q) x .total) (sym (sh .at-place))) );
+          let w = s .lines-fit l i in
+          let o = w .offer in
+          let sh = w .shows in (
+            subst (Fitting (offers m b q)) (sym (sh .at-place)) (fits-fit m q b o (sh .fits)),
+            sh .at-total ∙ (sym (fits-total m q b o (sh .fits)) ∙ ap (λ x. offer-at (offers m b q) x .total) (sym (sh .at-place))),
+          );
       place-once = s .place-once;
       totals-wanted = ⊎-elim inl
-        (λ e. inr (e .0, λ p fit. let w = fit-at m q b p fit in subst (λ x. Among x (places ls)) (w .1) (e .1 (w .0) (w .2))))
-        (s .totals-wanted);
-      in-order = nth-ascending earlier ls (λ i j l k h at to. says-earlier l k (s .in-order i j l k h at to)) };
-    counted = counted-by n (s .count) }
+          (λ e. inr (e .0, λ p fit. let w = fit-at m q b p fit in subst (λ x. Among x (places ls)) (w .1) (e .1 (w .0) (w .2))))
+          (s .totals-wanted);
+      in-order = nth-ascending earlier ls (λ i j l k h at to. says-earlier l k (s .in-order i j l k h at to));
+    };
+    counted = counted-by n (s .count);
+  }
 
   -- two answers that show such a list are equal
   pub list-fixed : List-fixed m b q

@@ -82,7 +82,7 @@ serves-from s i [] f = refl
 serves-from s i (u ∷ us) f =
     let z : i + 0 ≡ i = omega arith in
     let here : (eqb u 0 || s i) ≡ true =
-      ⊎-elim (λ x. or-left (eqb u 0) (s i) (eq-eqb u 0 x)) (λ x. or-right (eqb u 0) (s i) (subst (λ n. s n ≡ true) z (f 0 (omega arith)))) (cases-eq u 0) in
+    ⊎-elim (λ x. or-left (eqb u 0) (s i) (eq-eqb u 0 x)) (λ x. or-right (eqb u 0) (s i) (subst (λ n. s n ≡ true) z (f 0 (omega arith)))) (cases-eq u 0) in
     and-from _ _ here (serves-from s (suc i) us (λ k h. let e : i + suc k ≡ suc i + k = omega arith in subst (λ n. s n ≡ true) e (f (suc k) h)))
 
 served-true : (s : ℕ → Bool) (us : List ℕ) → Served s us → serves-all s 0 us ≡ true
@@ -101,7 +101,7 @@ serves-hit s us i lt used unserved =
 pub serves-skip : (s : ℕ → Bool) (us : List ℕ) (i : ℕ) → i < length us → (0 < getD us i 0 → s i ≡ true) → serves-all s i (drop i us) ≡ serves-all s (i + 1) (drop (i + 1) us)
 serves-skip s us i lt f =
     let here : (eqb (getD us i 0) 0 || s i) ≡ true =
-      ⊎-elim (λ x. or-left (eqb (getD us i 0) 0) (s i) (eq-eqb _ 0 x)) (λ x. or-right (eqb (getD us i 0) 0) (s i) (f (omega arith))) (cases-eq (getD us i 0) 0) in
+    ⊎-elim (λ x. or-left (eqb (getD us i 0) 0) (s i) (eq-eqb _ 0 x)) (λ x. or-right (eqb (getD us i 0) 0) (s i) (f (omega arith))) (cases-eq (getD us i 0) 0) in
     let next : suc i ≡ i + 1 = omega arith in
     at-drop-more (serves-all s i) us i 0 lt
     ∙ (ap (λ (b : Bool). b && serves-all s (suc i) (drop (i + 1) us)) here
@@ -144,10 +144,11 @@ module _ {T : Type 0} (m : Meaning T) (q : EnquiryData) where
   fit-by b p (in-work h t) at e = absurd (true≢false (sym e))
   fit-by b p (published h t) at e =
       let a = and-parts (asked-for q h) (serves-all (m .served t) 0 (q .estimate)) e in
-      let d = asked-true q h (a .0) in
-      ( record { place = p; head = h; tariff = t }
-      , refl
-      , record { is-published = at; on-the-day = d .on; of-network = d .network; of-contract = d .contract; term-accepted = d .term; serves-uses = true-served (m .served t) (q .estimate) (a .1) } )
+      let d = asked-true q h (a .0) in (
+        record { place = p; head = h; tariff = t },
+        refl,
+        record { is-published = at; on-the-day = d .on; of-network = d .network; of-contract = d .contract; term-accepted = d .term; serves-uses = true-served (m .served t) (q .estimate) (a .1) },
+      )
 
   -- a place that fits holds an offer that fits
   pub fit-at : (b : Book T) (p : ℕ) → Fitting (offers m b q) p → (o : Placed T) × (o .place ≡ p) × Fits m b q o
@@ -158,8 +159,8 @@ module _ {T : Type 0} (m : Meaning T) (q : EnquiryData) where
   fits-fit b o f =
       ap (λ (x : Offer). x .fits) (offer-there b (o .place) (published (o .head) (o .tariff)) (f .is-published))
       ∙ and-from _ _
-        (asked-from q (o .head) (record { on = f .on-the-day; network = f .of-network; contract = f .of-contract; term = f .term-accepted }))
-        (served-true (m .served (o .tariff)) (q .estimate) (f .serves-uses))
+      (asked-from q (o .head) (record { on = f .on-the-day; network = f .of-network; contract = f .of-contract; term = f .term-accepted }))
+      (served-true (m .served (o .tariff)) (q .estimate) (f .serves-uses))
 
   pub fits-total : (b : Book T) (o : Placed T) → Fits m b q o → offer-at (offers m b q) (o .place) .total ≡ total-of m q o
   fits-total b o f = ap (λ (x : Offer). x .total) (offer-there b (o .place) (published (o .head) (o .tariff)) (f .is-published))
@@ -174,6 +175,6 @@ module _ {T : Type 0} (m : Meaning T) (q : EnquiryData) where
   pub fits-same : (b : Book T) (o p : Placed T) → Fits m b q o → Fits m b q p → o .place ≡ p .place → o ≡ p
   fits-same b o p f g e =
       let s = same-published (o .head) (p .head) (o .tariff) (p .tariff)
-        (same-some (place-at b (p .place)) _ _ (ap (place-at b) (sym e) ∙ f .is-published) (g .is-published)) in
+      (same-some (place-at b (p .place)) _ _ (ap (place-at b) (sym e) ∙ f .is-published) (g .is-published)) in
       let placed : ℕ → HeadData → T → Placed T = λ n h t. record { place = n; head = h; tariff = t } in
       ap (λ n. placed n (o .head) (o .tariff)) e ∙ (ap (λ h. placed (p .place) h (o .tariff)) (s .0) ∙ ap (λ t. placed (p .place) (p .head) t) (s .1))

@@ -1,3 +1,4 @@
 pub mod Fits
 pub mod Bridge
 pub mod Causes
+pub mod Steps

@@ -34,7 +34,8 @@ offer-of m q (published h t) =
     record {
       fits = asked-for q h && serves-all (m .served t) 0 (q .estimate);
       floor = m .floor t;
-      total = offer-total (m .drawn t) (m .charged t) (q .estimate) }
+      total = offer-total (m .drawn t) (m .charged t) (q .estimate);
+    }
 
 -- the places of a book as the list sees them
 abbrev pub offers : {T : Type 0} → Meaning T → Book T → EnquiryData → List Offer

@@ -25,7 +25,10 @@ impl Enquiry {
     pub(crate) fn is_sound(&self) -> bool
         ensures { λ r. ⌜ r ≡ sound-values (enquiry-data (now (self .entry))) ⌝ }
     {
-        self.day <= LATEST_DAY && self.network <= 2 && self.contract <= 2 && self.term <= LONGEST_TERM
+        self.day <= LATEST_DAY
+            && self.network <= 2
+            && self.contract <= 2
+            && self.term <= LONGEST_TERM
     }
 
     // Whether an offer of this head is asked for.
@@ -61,7 +64,12 @@ fn serves_uses<T: Tariff>(tariff: &T, uses: &Uses) -> bool
 }
 
 // The floor of the offer at a place, if it fits.
-pub(crate) fn floor_at<T: Tariff>(catalogue: &Catalogue<T>, enquiry: &Enquiry, uses: &Uses, place: usize) -> Option<u64>
+pub(crate) fn floor_at<T: Tariff>(
+    catalogue: &Catalogue<T>,
+    enquiry: &Enquiry,
+    uses: &Uses,
+    place: usize,
+) -> Option<u64>
     requires { ⌜ now uses .parts ≡ enquiry-data (now enquiry) .estimate ⌝ }
     ensures { λ r. ⌜ BySome r (offer-at (offers (meaning served drawn charged floor) (held (now (catalogue .entry))) (enquiry-data (now (enquiry .entry)))) place .fits ≡ false) (λ f. (offer-at (offers (meaning served drawn charged floor) (held (now (catalogue .entry))) (enquiry-data (now (enquiry .entry)))) place .fits ≡ true) × (f ≡ offer-at (offers (meaning served drawn charged floor) (held (now (catalogue .entry))) (enquiry-data (now (enquiry .entry)))) place .floor)) ⌝ }
 {

@@ -19,7 +19,11 @@ use usage::Uses;
 /// The cheapest fitting offers, as lines at the start of the memory: how many are shown, and how many offers were costed.
 ///
 /// All memory behind the lines becomes place 0, total 0. A declined call leaves the memory as it was.
-pub fn list<T: Tariff>(catalogue: &Catalogue<T>, enquiry: &Enquiry, memory: &mut [Line]) -> Result<(usize, usize), Refusal>
+pub fn list<T: Tariff>(
+    catalogue: &Catalogue<T>,
+    enquiry: &Enquiry,
+    memory: &mut [Line],
+) -> Result<(usize, usize), Refusal>
     ensures answered { λ r. ⌜ List-answered (meaning served drawn charged floor) (held (now (catalogue .entry))) (enquiry-data (now (enquiry .entry))) (now (memory .entry)) r (now (memory .exit)) ⌝ }
     ensures fixed { λ _. ⌜ List-fixed (meaning served drawn charged floor) (held (now (catalogue .entry))) (enquiry-data (now (enquiry .entry))) ⌝ }
 {

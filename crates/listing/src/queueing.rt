@@ -37,7 +37,12 @@ fn total_at<T: Tariff>(catalogue: &Catalogue<T>, uses: &Uses, place: usize) -> u
 }
 
 // Writes the fitting places with their floors, by floor, then place, and says how many there are.
-pub(crate) fn line_up<T: Tariff>(catalogue: &Catalogue<T>, enquiry: &Enquiry, uses: &Uses, waiting: &mut [Queued]) -> usize
+pub(crate) fn line_up<T: Tariff>(
+    catalogue: &Catalogue<T>,
+    enquiry: &Enquiry,
+    uses: &Uses,
+    waiting: &mut [Queued],
+) -> usize
     requires uses { ⌜ now uses .parts ≡ enquiry-data (now enquiry) .estimate ⌝ }
     requires room { ⌜ length (held (now catalogue)) ≤ length (now waiting) ⌝ }
     ensures within { λ r. ⌜ r ≤ length (held (now (catalogue .entry))) ⌝ }
@@ -55,7 +60,14 @@ pub(crate) fn line_up<T: Tariff>(catalogue: &Catalogue<T>, enquiry: &Enquiry, us
 }
 
 // Costs the offers of the queue in turn and puts their lines, until taking ends.
-pub(crate) fn gather<T: Tariff>(catalogue: &Catalogue<T>, enquiry: &Enquiry, uses: &Uses, waiting: &[Queued], begun: Gathering, memory: &mut [Line]) -> Gathering
+pub(crate) fn gather<T: Tariff>(
+    catalogue: &Catalogue<T>,
+    enquiry: &Enquiry,
+    uses: &Uses,
+    waiting: &[Queued],
+    begun: Gathering,
+    memory: &mut [Line],
+) -> Gathering
     requires uses { ⌜ now uses .parts ≡ enquiry-data (now enquiry) .estimate ⌝ }
     requires queued { ⌜ now waiting ≡ queue (offers (meaning served drawn charged floor) (held (now catalogue)) (enquiry-data (now enquiry))) ⌝ }
     requires room { ⌜ length (now waiting) ≤ length (now memory) ⌝ }

@@ -10,8 +10,12 @@ use borrow.Author.Needs.{needs}
 use Rattle.std.specs.shelf.Lists.{inserted}
 use Rattle.std.proofs.shelf.Lists.{at-drop-more, at-drop-all, same-lists, length-set, places, getD-set-other, getD-append-left, getD-take, length-take-le}
 use Rattle.std.proofs.shelf.Edits.{length-inserted, getD-inserted-above}
-use Rattle.std.proofs.shelf.Tests.{cond-true, cond-false, cases-lt, cases-order}
-use Rattle.ordered.specs.Inserting.{insert, spot}
+use Rattle.std.proofs.shelf.Tests.{cond-true, cond-false, cases-lt, cases-order, true≢false, false≢true}
+use Rattle.std.specs.Results.{isOk}
+use Rattle.std.specs.declared.result.Result.{Result}
+use Rattle.std.specs.declared.result.Result.the-variants.{Ok, Err}
+use Rattle.ordered.specs.declared.Full.{Full}
+use Rattle.ordered.specs.Inserting.{insert, spot, Puts}
 
 module _ {X : Type 0} (before : X → X → Bool) (x : X) where
   -- the item that the loop looks at is the one before which it goes
@@ -63,3 +67,14 @@ put-at xs ys at held x b e m =
     (λ (q : held + 1 ≤ k). let l = m .behind k d (omega arith) in search (needs, places))
     (cases-lt k (held + 1))))
     (cases-order k at))
+
+-- what putting says where there was room, and where there was none
+pub puts-ok : {X : Type 0} (before : X → X → Bool) (x : X) (held : ℕ) (xs ys : List X) (r : Result Unit Full) → Puts before x held xs r ys → isOk r ≡ true
+    → (held < length xs) × (ys ≡ insert before x (take held xs) ++ drop (held + 1) xs)
+puts-ok before x held xs ys (Ok u) p e = p
+puts-ok before x held xs ys (Err f) p e = absurd (false≢true e)
+
+pub puts-err : {X : Type 0} (before : X → X → Bool) (x : X) (held : ℕ) (xs ys : List X) (r : Result Unit Full) → Puts before x held xs r ys → isOk r ≡ false
+    → (length xs ≤ held) × (ys ≡ xs)
+puts-err before x held xs ys (Ok u) p e = absurd (true≢false e)
+puts-err before x held xs ys (Err f) p e = p
