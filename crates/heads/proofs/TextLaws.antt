@@ -46,8 +46,8 @@ pub all-printable : (bs : List ℕ) → ((k : ℕ) → k < length bs → 32 ≤ 
 all-printable [] f g = refl
 all-printable (b ∷ bs) f g =
     and-from (leb 32 b && leb b 126) (printable bs)
-      (and-from (leb 32 b) (leb b 126) (le-leb 32 b (f 0 (omega arith))) (le-leb b 126 (g 0 (omega arith))))
-      (all-printable bs (λ k h. f (suc k) (omega arith)) (λ k h. g (suc k) (omega arith)))
+    (and-from (leb 32 b) (leb b 126) (le-leb 32 b (f 0 (omega arith))) (le-leb b 126 (g 0 (omega arith))))
+    (all-printable bs (λ k h. f (suc k) (omega arith)) (λ k h. g (suc k) (omega arith)))
 
 pub text-printable : (bs : List ℕ) → Name-text bs → printable bs ≡ true
 text-printable bs t = all-printable bs (t .low) (t .high)
@@ -57,11 +57,12 @@ pub name-text : (n : Name) → Name-text (text-of n)
 name-text n =
     let short : n .len ≤ length (n .bytes) = omega (arith, n .room, n .short) in
     let long : length (text-of n) ≡ n .len = length-take-le (n .len) (n .bytes) short in
-    record
-    { some = omega (arith, n .some, long)
-    ; short = omega (arith, n .short, long)
-    ; low = λ k h. let lt : k < n .len = omega (arith, long) in rw (getD-take (n .len) (n .bytes) k 0 lt) (n .low k lt)
-    ; high = λ k h. let lt : k < n .len = omega (arith, long) in rw (getD-take (n .len) (n .bytes) k 0 lt) (n .high k) }
+    record {
+      some = omega (arith, n .some, long);
+      short = omega (arith, n .short, long);
+      low = λ k h. let lt : k < n .len = omega (arith, long) in rw (getD-take (n .len) (n .bytes) k 0 lt) (n .low k lt);
+      high = λ k h. let lt : k < n .len = omega (arith, long) in rw (getD-take (n .len) (n .bytes) k 0 lt) (n .high k);
+    }
 
 -- the first i bytes of a text are copied, with noughts behind
 pub record Copied (text bytes : List ℕ) (i : ℕ) : Type 0 where
@@ -70,20 +71,21 @@ pub record Copied (text bytes : List ℕ) (i : ℕ) : Type 0 where
   pub behind : (k : ℕ) → i ≤ k → getD bytes k 0 ≡ 0
 
 pub copied-more : (text bytes : List ℕ) (i : ℕ) → i < 24 → Copied text bytes i → Copied text (set bytes i (getD text i 0)) (i + 1)
-copied-more text bytes i lt c = record
-    { room = length-set bytes i (getD text i 0) ∙ c .room
-    ; done = λ k h. ⊎-elim
-        (λ (e : k ≡ i). subst (λ (m : ℕ). getD (set bytes i (getD text i 0)) m 0 ≡ getD text m 0) (sym e) (getD-set-same bytes i (getD text i 0) 0 (omega (arith, c .room))))
-        (λ (ne : k ≡ i → ⊥). getD-set-other bytes i k (getD text i 0) 0 ne ∙ c .done k (omega arith))
-        (cases-eq k i)
-    ; behind = λ k h. let ne : k ≢ i = omega arith in getD-set-other bytes i k (getD text i 0) 0 ne ∙ c .behind k (omega arith) }
+copied-more text bytes i lt c = record {
+  room = length-set bytes i (getD text i 0) ∙ c .room;
+  done = λ k h. ⊎-elim
+      (λ (e : k ≡ i). subst (λ (m : ℕ). getD (set bytes i (getD text i 0)) m 0 ≡ getD text m 0) (sym e) (getD-set-same bytes i (getD text i 0) 0 (omega (arith, c .room))))
+      (λ (ne : k ≡ i → ⊥). getD-set-other bytes i k (getD text i 0) 0 ne ∙ c .done k (omega arith))
+      (cases-eq k i);
+  behind = λ k h. let ne : k ≢ i = omega arith in getD-set-other bytes i k (getD text i 0) 0 ne ∙ c .behind k (omega arith);
+}
 
 -- the whole text is copied
 pub copied-all : (text bytes : List ℕ) → length text ≤ 24 → Copied text bytes (length text) → take (length text) bytes ≡ text
 copied-all text bytes short c =
     let long : length (take (length text) bytes) ≡ length text = length-take-le (length text) bytes (omega (arith, c .room)) in
     ext-getD 0 (take (length text) bytes) text long
-      (λ k h. let lt : k < length text = omega (arith, long) in getD-take (length text) bytes k 0 lt ∙ c .done k lt)
+    (λ k h. let lt : k < length text = omega (arith, long) in getD-take (length text) bytes k 0 lt ∙ c .done k lt)
 
 pub copied-low : (text bytes : List ℕ) → printable text ≡ true → Copied text bytes (length text) → (k : ℕ) → k < length text → 32 ≤ getD bytes k 0
 copied-low text bytes p c k h = subst (λ (b : ℕ). 32 ≤ b) (sym (c .done k h)) (printable-all text p k h .0)

@@ -23,26 +23,87 @@ impl Head {
         let name = Name::new(&raw.name)?;
         let network = Network::new(raw.network)?;
         let contract = Contract::new(raw.contract)?;
-        Head::of(raw.supplier, name, network, contract, raw.term, raw.first, raw.last)
+        Head::of(
+            raw.supplier,
+            name,
+            network,
+            contract,
+            raw.term,
+            raw.first,
+            raw.last,
+        )
     }
 
     // The head of these values, if they keep the rules.
-    fn of(supplier: u16, name: Name, network: Network, contract: Contract, term: u8, first: u16, last: u16) -> Option<Head>
+    fn of(
+        supplier: u16,
+        name: Name,
+        network: Network,
+        contract: Contract,
+        term: u8,
+        first: u16,
+        last: u16,
+    ) -> Option<Head>
         ensures { λ r. ⌜ BySome r (Sound-head (head-of supplier (text-of name) (network-code network) (contract-code contract) term first last) → ⊥) (λ h. Sound-head (head-of supplier (text-of name) (network-code network) (contract-code contract) term first last) × (head-data h ≡ head-of supplier (text-of name) (network-code network) (contract-code contract) term first last)) ⌝ }
     {
-        if term > LONGEST_TERM || first > LATEST_FIRST || last < first || !suits(network, contract, term) {
+        if term > LONGEST_TERM
+            || first > LATEST_FIRST
+            || last < first
+            || !suits(network, contract, term)
+        {
             return None;
         }
-        Some(Head { supplier, name, network, contract, term, first, last })
+        Some(Head {
+            supplier,
+            name,
+            network,
+            contract,
+            term,
+            first,
+            last,
+        })
     }
 
     /// A head that stands in memory for none: supplier 0, named by a blank, for day 0.
     pub fn blank() -> Head
         ensures { λ r. ⌜ head-data r ≡ blank ⌝ }
     {
-        let bytes = [32, 0, 0, 0, 0, 0, 0, 0, 0, 0, 0, 0, 0, 0, 0, 0, 0, 0, 0, 0, 0, 0, 0, 0];
+        let bytes = [
+            32,
+            0,
+            0,
+            0,
+            0,
+            0,
+            0,
+            0,
+            0,
+            0,
+            0,
+            0,
+            0,
+            0,
+            0,
+            0,
+            0,
+            0,
+            0,
+            0,
+            0,
+            0,
+            0,
+            0,
+        ];
         let name = Name { bytes, len: 1 };
-        Head { supplier: 0, name, network: Network::Fixed, contract: Contract::Subscription, term: 0, first: 0, last: 0 }
+        Head {
+            supplier: 0,
+            name,
+            network: Network::Fixed,
+            contract: Contract::Subscription,
+            term: 0,
+            first: 0,
+            last: 0,
+        }
     }
 
     /// The head with another last day, unless that is before the first.
@@ -53,7 +114,15 @@ impl Head {
         if last < first {
             return None;
         }
-        Some(Head { supplier: self.supplier, name: self.name, network: self.network, contract: self.contract, term: self.term, first, last })
+        Some(Head {
+            supplier: self.supplier,
+            name: self.name,
+            network: self.network,
+            contract: self.contract,
+            term: self.term,
+            first,
+            last,
+        })
     }
 
     /// The supplier's number. Every head keeps the rules.

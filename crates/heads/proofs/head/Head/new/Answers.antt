@@ -22,5 +22,5 @@ pub returns : need.returns
 returns c =
     let r = c .args .raw .now in
     let e = same-values (r .supplier) (r .term) (r .first) (r .last)
-        (c .in-Continue-name .ensures tt .1 ∙ c .deref .ensures .value) (c .in-Continue-network .ensures tt) (c .in-Continue-contract .ensures tt) in
+    (c .in-Continue-name .ensures tt .1 ∙ c .deref .ensures .value) (c .in-Continue-network .ensures tt) (c .in-Continue-contract .ensures tt) in
     subst (λ (d : HeadData). BySome (c .of .result) (Sound-head d → ⊥) (λ h. Sound-head d × (head-data h ≡ d))) e (c .of .ensures)

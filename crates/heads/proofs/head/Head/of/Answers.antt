@@ -11,16 +11,18 @@ ghost-result c =
 
 pub returns : need.returns
 returns c =
-    let suits = c .suits .ensures .0 (c .if-not-suits .left) in
-    ( record
-      { supplier-known = omega arith
-      ; name-fits = name-text (c .args .name)
-      ; network-known = network-known (c .args .network)
-      ; contract-known = contract-known (c .args .contract)
-      ; term-bound = omega arith
-      ; first-bound = omega arith
-      ; last-bound = omega arith
-      ; days-ordered = omega arith
-      ; card-mobile = λ e. suits e .0
-      ; card-termless = λ e. suits e .1 }
-    , refl )
+    let suits = c .suits .ensures .0 (c .if-not-suits .left) in (
+      record {
+        supplier-known = omega arith;
+        name-fits = name-text (c .args .name);
+        network-known = network-known (c .args .network);
+        contract-known = contract-known (c .args .contract);
+        term-bound = omega arith;
+        first-bound = omega arith;
+        last-bound = omega arith;
+        days-ordered = omega arith;
+        card-mobile = λ e. suits e .0;
+        card-termless = λ e. suits e .1;
+      },
+      refl,
+    )

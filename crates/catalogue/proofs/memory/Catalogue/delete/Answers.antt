@@ -1,0 +1,64 @@
+use mathlib.Core.Path.{refl, ap, _∙_}
+use denote.Ref.{now}
+use native.Mathlib.Omega.{arith}
+use lib.ListN.{set}
+use Rattle.std.specs.Of.Vec.{vec-items}
+use Rattle.std.proofs.shelf.Lists.{map-set}
+use Rattle.heads.specs.Rules.{HeadData}
+use Rattle.heads.specs.Heads.{head-data}
+use Rattle.catalogue.specs.declared.slot.State.the-variants.{Empty, InWork, Published}
+use Rattle.catalogue.specs.Calls.{delete}
+use Rattle.catalogue.specs.Slots.{slot-data, slot-of}
+use Rattle.catalogue.specs.Held.{memory, held}
+use Rattle.catalogue.proofs.Judging.{judge-missing, delete-at-empty, delete-taken}
+use Rattle.catalogue.proofs.Holding.{none-at, slot-at, stands, tariff-at}
+use Rattle.catalogue.proofs.Doing.{slot, with-slot, apart-after, deleting}
+use Rattle.catalogue.proofs.memory.Catalogue.delete.Needs as need
+
+pub returns-then-place-len : need.returns-then-place-len
+returns-then-place-len g c =
+    let m = c .args .self .now in
+    record {
+      judged = judge-missing (held m) (delete (c .args .place)) (none-at m (c .args .place) (omega arith));
+      stored = refl {a = m};
+    }
+
+pub returns-in-Empty : need.returns-in-Empty
+returns-in-Empty g c =
+    let m = c .args .self .now in
+    let p = c .args .place in
+    let s = c .index-slot .result .now in
+    let u = tariff-at m p (omega arith) in
+    let at = stands m p s Empty (u .0) (omega arith) (c .index-slot .ensures) (c .in-Empty .is) (u .1) in
+    record { judged = delete-at-empty (held m) p at; stored = refl {a = m} }
+
+pub returns-in-Published : need.returns-in-Published
+returns-in-Published g c =
+    let m = c .args .self .now in
+    let p = c .args .place in
+    let s = c .index-slot .result .now in
+    let u = tariff-at m p (omega arith) in
+    let at = stands m p s Published (u .0) (omega arith) (c .index-slot .ensures) (c .in-Published .is) (u .1) in
+    record { judged = delete-taken (held m) p (head-data (s .head)) (u .0) at; stored = refl {a = m} }
+
+pub returns-in-InWork : need.returns-in-InWork
+returns-in-InWork g c =
+    let m = c .args .self .now in
+    let p = c .args .place in
+    let s = c .index-slot .result .now in
+    record {
+      judged = deleting m p s (omega arith, c .index-slot .ensures) (c .in-InWork .is);
+      stored = record {
+        was = slot-data s;
+        found = slot-at m p s (omega arith) (c .index-slot .ensures);
+        slots = map-set slot-data (vec-items (m .slots)) p (slot Empty (s .head));
+        tariffs = refl;
+      };
+    }
+
+pub ghost-self : need.ghost-self
+ghost-self g c =
+    let m = c .args .self .now in
+    let p = c .args .place in
+    let s = c .index-slot .result .now in
+    (m .level, (m .some, (m .few, (apart-after m p (delete p) (with-slot m p (slot Empty (s .head))) (deleting m p s (omega arith, c .index-slot .ensures) (c .in-InWork .is)), tt))))

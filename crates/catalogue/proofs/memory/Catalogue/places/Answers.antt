@@ -1,0 +1,10 @@
+use mathlib.Core.Path.{refl, sym}
+use native.Mathlib.Omega.{arith}
+use Rattle.catalogue.proofs.BookLaws.{book-laws}
+use Rattle.catalogue.proofs.Holding.{held-long, held-sound}
+use Rattle.catalogue.proofs.memory.Catalogue.places.Needs as need
+
+pub returns : need.returns
+returns g c =
+    let m = c .args .self .now in
+    record { is = omega (arith, held-long m); openable = (omega arith, omega arith, refl); apart = m .apart; sound = held-sound m; laws = book-laws (g .T .Denot) }
