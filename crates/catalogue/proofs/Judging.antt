@@ -21,7 +21,7 @@ empty-work o h t p q = let z : _≡_ {A = ℕ} 0 1 = cc in omega arith
 empty-published : {T : Type 0} (o : Option (Place T)) (h : HeadData) (t : T) → o ≡ Some empty → o ≡ Some (published h t) → ⊥
 empty-published o h t p q = let z : _≡_ {A = ℕ} 0 1 = cc in omega arith
 
-work-published : {T : Type 0} (o : Option (Place T)) (h k : HeadData) (t u : T) → o ≡ Some (in-work h t) → o ≡ Some (published k u) → ⊥
+pub work-published : {T : Type 0} (o : Option (Place T)) (h k : HeadData) (t u : T) → o ≡ Some (in-work h t) → o ≡ Some (published k u) → ⊥
 work-published o h k t u p q = let z : _≡_ {A = ℕ} 0 1 = cc in omega arith
 
 pub same-work : {T : Type 0} (o : Option (Place T)) (h k : HeadData) (t u : T) → o ≡ Some (in-work h t) → o ≡ Some (in-work k u) → h ≡ k
