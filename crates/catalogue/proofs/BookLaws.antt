@@ -1,6 +1,5 @@
 -- What every call keeps: the number of places, namesakes apart, heads that keep the rules. Assumes nothing.
 use mathlib.Core.Path.{_≡_, refl, sym, ap, subst, _∙_}
-use mathlib.Core.List.{List, [], _∷_}
 use mathlib.Core.Logic.{⊎-elim}
 use Prim.Native.Nat.{ℕ, zero, suc, _≤_, _<_}
 use native.Mathlib.Omega.{arith}
@@ -10,11 +9,11 @@ use Rattle.std.specs.declared.option.Option.the-variants.{Some, None}
 use Rattle.std.proofs.shelf.Lists.{length-set}
 use Rattle.std.proofs.shelf.Tests.{cases-eq, cases-lt}
 use Rattle.refusal.specs.Rows.{RowData, bare}
-use Rattle.heads.specs.Rules.{HeadData, Sound-head, Namesakes, Share-a-day, ending}
+use Rattle.heads.specs.Rules.{HeadData, Sound-head, Share-a-day, ending}
 use Rattle.heads.proofs.HeadLaws.{sound-stable}
 use Rattle.catalogue.specs.Refusals.{shares-day}
-use Rattle.catalogue.specs.Books.{Place, empty, in-work, published, Book, place-at, all-empty, Rival, Lowest, Meeting, Apart, Sound-place, Sound-book}
-use Rattle.catalogue.specs.Calls.{Change, enter, publish, amend, delete, bad-head, in-work-before-first, published-before-first, publish-shares-day, amend-shares-day, No-cause, Step, entered, made-public, amended-work, amended-published, deleted, Judged, done, declined, Day-fits}
+use Rattle.catalogue.specs.Books.{Place, empty, in-work, published, Book, place-at, all-empty, Rival, Apart, Sound-place, Sound-book}
+use Rattle.catalogue.specs.Calls.{Change, bad-head, in-work-before-first, published-before-first, publish-shares-day, amend-shares-day, No-cause, Step, entered, made-public, amended-work, amended-published, deleted, Judged, done, declined, Day-fits}
 use Rattle.catalogue.proofs.Places.{none-some, same-some, nth-set-other, set-found}
 use Rattle.catalogue.proofs.Searching.{no-rival}
 

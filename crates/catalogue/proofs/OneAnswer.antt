@@ -3,19 +3,19 @@ use mathlib.Core.Path.{_≡_, refl, sym, ap, subst, _∙_}
 use mathlib.Core.List.{List, [], _∷_}
 use mathlib.Core.Bool.{Bool, true, false, cond}
 use mathlib.Core.Logic.{_⊎_, inl, inr, ⊎-elim}
-use Prim.Native.Nat.{ℕ, zero, suc, _≤_, _<_}
+use Prim.Native.Nat.{ℕ, suc, _<_}
 use native.Mathlib.Omega.{arith}
 use lib.Dec.{eqb}
 use lib.ListN.{length, getD, set}
 use Rattle.std.specs.declared.option.Option.{Option}
-use Rattle.std.specs.declared.option.Option.the-variants.{Some, None}
-use Rattle.std.proofs.shelf.Tests.{cases-order, cases-lt, eqb-true}
+use Rattle.std.specs.declared.option.Option.the-variants.{Some}
+use Rattle.std.proofs.shelf.Tests.{cases-order, eqb-true}
 use Rattle.refusal.specs.Rows.{RowData, bare}
 use Rattle.heads.specs.Rules.{HeadData, ending}
 use Rattle.catalogue.specs.Refusals.{shares-day}
-use Rattle.catalogue.specs.Table.{table, position, rank, Higher}
-use Rattle.catalogue.specs.Books.{Place, empty, in-work, published, Book, place-at, Rival, Lowest}
-use Rattle.catalogue.specs.Calls.{Change, enter, publish, amend, delete, Row, no-such-place, bad-head, publish-empty, amend-empty, delete-empty, in-work-before-first, published-before-first, enter-published, publish-published, delete-published, publish-shares-day, amend-shares-day, Declined, No-cause, Step, entered, made-public, amended-work, amended-published, deleted, Judged, done, declined}
+use Rattle.catalogue.specs.Table.{table, position, rank}
+use Rattle.catalogue.specs.Books.{in-work, published, Book, place-at, Rival, Lowest}
+use Rattle.catalogue.specs.Calls.{Change, enter, publish, amend, delete, Row, no-such-place, bad-head, publish-empty, amend-empty, delete-empty, in-work-before-first, published-before-first, enter-published, publish-published, delete-published, publish-shares-day, amend-shares-day, Declined, Step, entered, made-public, amended-work, amended-published, deleted, Judged, done, declined}
 use Rattle.catalogue.specs.Laws.{Book-laws}
 use Rattle.catalogue.proofs.BookLaws.{stays, long-kept, apart-kept, sound-kept, opened-long, opened-apart, opened-sound}
 use Rattle.catalogue.proofs.Judging.{same-work, same-published, work-published}

@@ -1,4 +1,4 @@
-use mathlib.Core.Path.{refl, sym}
+use mathlib.Core.Path.{refl}
 use native.Mathlib.Omega.{arith}
 use Rattle.catalogue.proofs.OneAnswer.{book-laws}
 use Rattle.catalogue.proofs.Holding.{held-long, held-sound}
