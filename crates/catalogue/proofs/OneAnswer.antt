@@ -55,12 +55,28 @@ module _ {T : Type 0} (b : Book T) where
   shape c r (enter-published e) = (omega arith, inl (refl, λ z. omega arith))
   shape c r (publish-published e) = (omega arith, inl (refl, λ z. omega arith))
   shape c r (delete-published e) = (omega arith, inl (refl, λ z. omega arith))
-  shape c r (publish-shares-day {p = p} {q = q} {h = h} {t = t} at l) = (omega arith, inr (q, refl, record
-      { holds = (h, t, at, l .holds)
-      ; none-lower = λ i lt x. l .none-lower i lt (subst (λ (k : HeadData). Rival b p k i) (same-work (place-at b p) (x .0) h (x .1) t (x .2) at) (x .3)) }))
-  shape c r (amend-shares-day {p = p} {d = d} {q = q} {h = h} {t = t} at l) = (omega arith, inr (q, refl, record
-      { holds = (h, t, at, l .holds)
-      ; none-lower = λ i lt x. l .none-lower i lt (subst (λ (k : HeadData). Rival b p (ending k d) i) (same-published (place-at b p) (x .0) h (x .1) t (x .2) at) (x .3)) }))
+  shape c r (publish-shares-day {p = p} {q = q} {h = h} {t = t} at l) = (
+    omega arith,
+    inr (
+      q,
+      refl,
+      record {
+        holds = (h, t, at, l .holds);
+        none-lower = λ i lt x. l .none-lower i lt (subst (λ (k : HeadData). Rival b p k i) (same-work (place-at b p) (x .0) h (x .1) t (x .2) at) (x .3));
+      },
+    ),
+  )
+  shape c r (amend-shares-day {p = p} {d = d} {q = q} {h = h} {t = t} at l) = (
+    omega arith,
+    inr (
+      q,
+      refl,
+      record {
+        holds = (h, t, at, l .holds);
+        none-lower = λ i lt x. l .none-lower i lt (subst (λ (k : HeadData). Rival b p (ending k d) i) (same-published (place-at b p) (x .0) h (x .1) t (x .2) at) (x .3));
+      },
+    ),
+  )
 
   lowest-one : (P : ℕ → Type 0) (q k : ℕ) → Lowest P q → Lowest P k → q ≡ k
   lowest-one P q k a c = ⊎-elim
@@ -71,13 +87,13 @@ module _ {T : Type 0} (b : Book T) where
   same-shape : (c : Change T) (r s : RowData) → r .number ≡ s .number → Shape b c r → Shape b c s → r ≡ s
   same-shape c r s e one two = ⊎-elim
       (λ x. ⊎-elim
-        (λ y. x .0 ∙ ap bare e ∙ sym (y .0))
-        (λ y. absurd (x .1 (e ∙ ap (λ (z : RowData). z .number) (y .1))))
-        two)
+      (λ y. x .0 ∙ ap bare e ∙ sym (y .0))
+      (λ y. absurd (x .1 (e ∙ ap (λ (z : RowData). z .number) (y .1))))
+      two)
       (λ x. ⊎-elim
-        (λ y. absurd (y .1 (sym e ∙ ap (λ (z : RowData). z .number) (x .1))))
-        (λ y. x .1 ∙ ap shares-day (lowest-one (Clash b c) (x .0) (y .0) (x .2) (y .2)) ∙ sym (y .1))
-        two)
+      (λ y. absurd (y .1 (sym e ∙ ap (λ (z : RowData). z .number) (x .1))))
+      (λ y. x .1 ∙ ap shares-day (lowest-one (Clash b c) (x .0) (y .0) (x .2) (y .2)) ∙ sym (y .1))
+      two)
       one
 
   same-rank : (m n : ℕ) → (m < n → ⊥) → (n < m → ⊥) → m ≡ n
@@ -88,8 +104,8 @@ module _ {T : Type 0} (b : Book T) where
       let one = shape c r (d .holds) in
       let two = shape c s (e .holds) in
       same-shape c r s
-        (same-number (r .number) (s .number) (one .0) (two .0) (same-rank (rank (r .number)) (rank (s .number)) (e .topmost r (d .holds)) (d .topmost s (e .holds))))
-        (one .1) (two .1)
+      (same-number (r .number) (s .number) (one .0) (two .0) (same-rank (rank (r .number)) (rank (s .number)) (e .topmost r (d .holds)) (d .topmost s (e .holds))))
+      (one .1) (two .1)
 
   same-step : (c : Change T) (n k : Book T) → Step b c n → Step b c k → n ≡ k
   same-step c n k (entered) (entered) = refl
@@ -109,6 +125,13 @@ one-answer b c n k a e (declined {row = r} d) (declined {row = s} f) = (ap (λ (
 
 -- the laws of books, together
 pub book-laws : (T : Type 0) → Book-laws T
-book-laws T = record
-    { opened-long = opened-long T; opened-apart = opened-apart; opened-sound = opened-sound
-    ; declined-stays = stays; long-kept = long-kept; apart-kept = apart-kept; sound-kept = sound-kept; one-answer = one-answer }
+book-laws T = record {
+  opened-long = opened-long T;
+  opened-apart = opened-apart;
+  opened-sound = opened-sound;
+  declined-stays = stays;
+  long-kept = long-kept;
+  apart-kept = apart-kept;
+  sound-kept = sound-kept;
+  one-answer = one-answer;
+}
