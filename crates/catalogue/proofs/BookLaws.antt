@@ -1,6 +1,5 @@
 -- What every call keeps: the number of places, namesakes apart, heads that keep the rules. Assumes nothing.
 use mathlib.Core.Path.{_≡_, refl, sym, ap, subst, _∙_}
-use mathlib.Core.List.{List, [], _∷_}
 use mathlib.Core.Logic.{⊎-elim}
 use Prim.Native.Nat.{ℕ, zero, suc, _≤_, _<_}
 use native.Mathlib.Omega.{arith}
@@ -10,12 +9,11 @@ use Rattle.std.specs.declared.option.Option.the-variants.{Some, None}
 use Rattle.std.proofs.shelf.Lists.{length-set}
 use Rattle.std.proofs.shelf.Tests.{cases-eq, cases-lt}
 use Rattle.refusal.specs.Rows.{RowData, bare}
-use Rattle.heads.specs.Rules.{HeadData, Sound-head, Namesakes, Share-a-day, ending}
+use Rattle.heads.specs.Rules.{HeadData, Sound-head, Share-a-day, ending}
 use Rattle.heads.proofs.HeadLaws.{sound-stable}
 use Rattle.catalogue.specs.Refusals.{shares-day}
-use Rattle.catalogue.specs.Books.{Place, empty, in-work, published, Book, place-at, all-empty, Rival, Lowest, Meeting, Apart, Sound-place, Sound-book}
-use Rattle.catalogue.specs.Calls.{Change, enter, publish, amend, delete, bad-head, in-work-before-first, published-before-first, publish-shares-day, amend-shares-day, No-cause, Step, entered, made-public, amended-work, amended-published, deleted, Judged, done, declined, Day-fits}
-use Rattle.catalogue.specs.Laws.{Book-laws}
+use Rattle.catalogue.specs.Books.{Place, empty, in-work, published, Book, place-at, all-empty, Rival, Apart, Sound-place, Sound-book}
+use Rattle.catalogue.specs.Calls.{Change, bad-head, in-work-before-first, published-before-first, publish-shares-day, amend-shares-day, No-cause, Step, entered, made-public, amended-work, amended-published, deleted, Judged, done, declined, Day-fits}
 use Rattle.catalogue.proofs.Places.{none-some, same-some, nth-set-other, set-found}
 use Rattle.catalogue.proofs.Searching.{no-rival}
 
@@ -115,10 +113,10 @@ long-step b c n (amended-published {p = p} {d = d} {h = h} {t = t} at) = length-
 long-step b c n (deleted {p = p}) = length-set b p empty
 
 -- the same of what is answered
-stays : {T : Type 0} (b n : Book T) (c : Change T) (row : RowData) → Judged b c (Some row) n → n ≡ b
+pub stays : {T : Type 0} (b n : Book T) (c : Change T) (row : RowData) → Judged b c (Some row) n → n ≡ b
 stays b n c row (declined d) = refl
 
-long-kept : {T : Type 0} (b n : Book T) (c : Change T) (a : Option RowData) → Judged b c a n → length n ≡ length b
+pub long-kept : {T : Type 0} (b n : Book T) (c : Change T) (a : Option RowData) → Judged b c a n → length n ≡ length b
 long-kept b n c a (done none s) = long-step b c n s
 long-kept b n c a (declined d) = refl
 
@@ -126,12 +124,12 @@ pub apart-kept : {T : Type 0} (b n : Book T) (c : Change T) (a : Option RowData)
 apart-kept b n c a (done none s) = apart-step b c n none s
 apart-kept b n c a (declined d) = λ x. x
 
-sound-kept : {T : Type 0} (b n : Book T) (c : Change T) (a : Option RowData) → Judged b c a n → Day-fits c → Sound-book b → Sound-book n
+pub sound-kept : {T : Type 0} (b n : Book T) (c : Change T) (a : Option RowData) → Judged b c a n → Day-fits c → Sound-book b → Sound-book n
 sound-kept b n c a (done none s) = sound-step b c n none s
 sound-kept b n c a (declined d) = λ fits x. x
 
 -- the book at opening
-opened-long : (T : Type 0) (n : ℕ) → length (all-empty {T = T} n) ≡ n
+pub opened-long : (T : Type 0) (n : ℕ) → length (all-empty {T = T} n) ≡ n
 opened-long T zero = refl
 opened-long T (suc n) = ap suc (opened-long T n)
 
@@ -143,16 +141,5 @@ empty-at (suc n) (suc p) x e = empty-at n p x e
 pub opened-apart : {T : Type 0} (n : ℕ) → Apart (all-empty {T = T} n)
 opened-apart n m = let e = empty-at n (m .one) (published (m .head) (m .tariff)) (m .at-one) in absurd (let z : _≡_ {A = ℕ} 0 1 = cc in omega arith)
 
-opened-sound : {T : Type 0} (n : ℕ) → Sound-book (all-empty {T = T} n)
+pub opened-sound : {T : Type 0} (n : ℕ) → Sound-book (all-empty {T = T} n)
 opened-sound {T} n p x e = subst (λ (z : Place T). Sound-place z) (empty-at n p x e) tt
-
-pub book-laws : (T : Type 0) → Book-laws T
-book-laws T = record {
-  opened-long = opened-long T;
-  opened-apart = opened-apart;
-  opened-sound = opened-sound;
-  declined-stays = stays;
-  long-kept = long-kept;
-  apart-kept = apart-kept;
-  sound-kept = sound-kept;
-}

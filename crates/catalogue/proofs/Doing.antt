@@ -1,5 +1,5 @@
 -- What each call with no cause leaves in memory is the book's step. Assumes nothing.
-use mathlib.Core.Path.{_≡_, refl, sym, ap, subst, _∙_}
+use mathlib.Core.Path.{_≡_, sym, ap, subst, _∙_}
 use mathlib.Core.List.{List, map}
 use mathlib.Core.Logic.{_⊎_, ⊎-elim}
 use Prim.Native.Nat.{ℕ, _≤_, _<_}
@@ -7,7 +7,6 @@ use lib.ListN.{set, getD}
 use Rattle.std.specs.Of.Vec.{vec-items, vec-len}
 use Rattle.std.specs.declared.option.Option.{Option}
 use Rattle.std.specs.declared.option.Option.the-variants.{Some, None}
-use Rattle.refusal.specs.Rows.{RowData, bare}
 use Rattle.heads.specs.declared.head.Head.{Head}
 use Rattle.heads.specs.Rules.{HeadData, Sound-head, ending}
 use Rattle.heads.specs.Heads.{head-data}
@@ -15,10 +14,10 @@ use Rattle.catalogue.specs.declared.slot.Slot.{Slot}
 use Rattle.catalogue.specs.declared.slot.State.{State}
 use Rattle.catalogue.specs.declared.slot.State.the-variants.{Empty, InWork, Published}
 use Rattle.catalogue.specs.declared.memory.Catalogue.{Catalogue}
-use Rattle.catalogue.specs.Books.{Place, empty, in-work, published, Book, place-at, Apart}
+use Rattle.catalogue.specs.Books.{in-work, published, Book, Apart}
 use Rattle.catalogue.specs.Calls.{Change, enter, publish, amend, delete, No-cause, Step, entered, made-public, amended-work, amended-published, deleted, Judged, done}
 use Rattle.catalogue.specs.Refusals.{shares-day}
-use Rattle.catalogue.specs.Slots.{SlotData, slot-data, book-of}
+use Rattle.catalogue.specs.Slots.{slot-data, book-of}
 use Rattle.catalogue.specs.Search.{bars-slot, first-other}
 use Rattle.catalogue.specs.Held.{memory, held}
 use Rattle.catalogue.proofs.Searching.{clash-none, clash-some}

@@ -17,12 +17,12 @@ use Rattle.catalogue.specs.declared.slot.Slot.{Slot}
 use Rattle.catalogue.specs.declared.slot.State.{State}
 use Rattle.catalogue.specs.declared.slot.State.the-variants.{Empty, InWork, Published}
 use Rattle.catalogue.specs.declared.memory.Catalogue.{Catalogue}
-use Rattle.catalogue.specs.Books.{Place, empty, in-work, published, Book, place-at, all-empty, Rival, Lowest, Sound-place, Sound-book}
-use Rattle.catalogue.specs.Slots.{SlotData, slot-of, slot-data, place-by, book-of, emptied}
+use Rattle.catalogue.specs.Books.{Place, empty, place-at, all-empty, Sound-place, Sound-book}
+use Rattle.catalogue.specs.Slots.{SlotData, slot-data, place-by, book-of, emptied}
 use Rattle.catalogue.specs.Search.{bars-slot, first-other}
 use Rattle.catalogue.specs.Held.{memory, held}
-use Rattle.catalogue.proofs.Places.{none-some, same-some, nth-map, map-nth, nth-within}
-use Rattle.catalogue.proofs.Searching.{clash, clash-none, clash-some, search-same}
+use Rattle.catalogue.proofs.Places.{none-some, same-some, nth-map, nth-within}
+use Rattle.catalogue.proofs.Searching.{clash, search-same}
 
 book-past : {T : Type 0} (ss : List SlotData) (ts : List T) (p : ℕ) → length ss ≤ p → place-at (book-of ss ts) p ≡ None
 book-past [] ts p h = refl

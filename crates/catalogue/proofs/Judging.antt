@@ -1,8 +1,7 @@
 -- Which row declines a call, once it is known what stands at its place. Assumes nothing.
-use mathlib.Core.Path.{_≡_, refl, sym, ap, subst, _∙_}
+use mathlib.Core.Path.{_≡_, refl, ap, subst}
 use Prim.Native.Nat.{ℕ, _≤_, _<_}
 use native.Mathlib.Omega.{arith}
-use lib.ListN.{set}
 use Rattle.std.specs.declared.option.Option.{Option}
 use Rattle.std.specs.declared.option.Option.the-variants.{Some, None}
 use Rattle.refusal.specs.Rows.{RowData, bare}
@@ -10,9 +9,8 @@ use Rattle.heads.specs.Rules.{HeadData, Sound-head, ending}
 use Rattle.catalogue.specs.Refusals.{shares-day}
 use Rattle.catalogue.specs.Table.{Higher}
 use Rattle.catalogue.specs.Books.{Place, empty, in-work, published, Book, place-at, Rival, Lowest}
-use Rattle.catalogue.specs.Calls.{Change, enter, publish, amend, delete, place-of, Row, no-such-place, bad-head, publish-empty, amend-empty, delete-empty, in-work-before-first, published-before-first, enter-published, publish-published, delete-published, publish-shares-day, amend-shares-day, Declined, No-cause, Step, Judged, done, declined}
+use Rattle.catalogue.specs.Calls.{Change, enter, publish, amend, delete, place-of, Row, no-such-place, bad-head, publish-empty, amend-empty, delete-empty, in-work-before-first, published-before-first, enter-published, publish-published, delete-published, publish-shares-day, amend-shares-day, No-cause, Judged, declined}
 use Rattle.catalogue.proofs.Places.{none-some, same-some}
-use Rattle.catalogue.proofs.Searching.{clash, clash-none, clash-some}
 
 -- two things do not stand at one place
 empty-work : {T : Type 0} (o : Option (Place T)) (h : HeadData) (t : T) → o ≡ Some empty → o ≡ Some (in-work h t) → ⊥
@@ -21,7 +19,7 @@ empty-work o h t p q = let z : _≡_ {A = ℕ} 0 1 = cc in omega arith
 empty-published : {T : Type 0} (o : Option (Place T)) (h : HeadData) (t : T) → o ≡ Some empty → o ≡ Some (published h t) → ⊥
 empty-published o h t p q = let z : _≡_ {A = ℕ} 0 1 = cc in omega arith
 
-work-published : {T : Type 0} (o : Option (Place T)) (h k : HeadData) (t u : T) → o ≡ Some (in-work h t) → o ≡ Some (published k u) → ⊥
+pub work-published : {T : Type 0} (o : Option (Place T)) (h k : HeadData) (t u : T) → o ≡ Some (in-work h t) → o ≡ Some (published k u) → ⊥
 work-published o h k t u p q = let z : _≡_ {A = ℕ} 0 1 = cc in omega arith
 
 pub same-work : {T : Type 0} (o : Option (Place T)) (h k : HeadData) (t u : T) → o ≡ Some (in-work h t) → o ≡ Some (in-work k u) → h ≡ k

@@ -4,3 +4,4 @@ pub mod Judging
 pub mod BookLaws
 pub mod Holding
 pub mod Doing
+pub mod OneAnswer

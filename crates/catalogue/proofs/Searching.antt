@@ -3,7 +3,7 @@ use mathlib.Core.Path.{_≡_, refl, sym, ap, subst, _∙_}
 use mathlib.Core.List.{List, [], _∷_, map}
 use mathlib.Core.Bool.{Bool, true, false, cond, not, _&&_}
 use mathlib.Core.Logic.{_⊎_, inl, inr, ⊎-elim}
-use Prim.Native.Nat.{ℕ, zero, suc, _+_, _≤_, _<_}
+use Prim.Native.Nat.{ℕ, zero, suc, _+_, _<_}
 use native.Mathlib.Omega.{arith}
 use native.Mathlib.Numerals.{add-one}
 use lib.Dec.{eqb, leb}
@@ -14,7 +14,7 @@ use Rattle.std.specs.declared.option.Option.the-variants.{Some, None}
 use Rattle.std.specs.Finite.{nth}
 use Rattle.std.specs.shelf.Text.{sameBytes}
 use Rattle.std.proofs.shelf.Equals.{sameBytes-decides}
-use Rattle.std.proofs.shelf.Tests.{eq-eqb, ne-eqb, le-leb, leb-true, eqb-true, and-from, and-parts, and-right, cases-bool, both-ways, not-true}
+use Rattle.std.proofs.shelf.Tests.{eq-eqb, ne-eqb, le-leb, leb-true, eqb-true, and-from, and-parts, and-right, both-ways, not-true}
 use Rattle.std.proofs.shelf.Lists.{at-drop-more}
 use Rattle.heads.specs.Rules.{HeadData, Namesakes, Share-a-day}
 use Rattle.heads.proofs.HeadLaws.{crossing, shared-one, shared-other}

@@ -21,3 +21,5 @@ pub record Book-laws (T : Type 0) : Type 0 where
   pub apart-kept : (b n : Book T) (c : Change T) (a : Option RowData) → Judged b c a n → Apart b → Apart n
   -- heads keep the rules after any call
   pub sound-kept : (b n : Book T) (c : Change T) (a : Option RowData) → Judged b c a n → Day-fits c → Sound-book b → Sound-book n
+  -- what is answered and what is left are fixed by the book and the call
+  pub one-answer : (b : Book T) (c : Change T) (n k : Book T) (a e : Option RowData) → Judged b c a n → Judged b c e k → (a ≡ e) × (n ≡ k)

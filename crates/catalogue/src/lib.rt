@@ -1,8 +1,12 @@
 //! The catalogue of offers: opening it, and the calls that enter, publish, amend and delete.
-pub mod calls;
+pub mod amending;
+pub mod deleting;
+pub mod entering;
 pub mod memory;
 pub mod numbers;
+pub mod offers;
 pub mod opening;
+pub mod publishing;
 pub mod refusal;
 pub mod rivals;
 pub mod slot;

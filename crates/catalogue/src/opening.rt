@@ -1,15 +1,11 @@
-//! Opening a catalogue, and what it holds.
+//! Opening a catalogue, and how many places it has.
 ghost use mathlib.Core.Path.{_≡_};
 ghost use Rattle.std.specs.Results.{Cases};
-ghost use Rattle.std.specs.Options.{Cases as BySome};
-ghost use Rattle.std.specs.declared.option.Option.the-variants.{Some};
 ghost use Rattle.std.specs.Of.Vec.{vec-len, vec-items};
 ghost use mathlib.Core.List.{map};
 ghost use lib.ListN.{length};
-ghost use Rattle.heads.specs.Heads.{head-data};
-ghost use Rattle.heads.specs.Rules.{HeadData};
 ghost use Rattle.catalogue.specs.declared.refusal.Refusal.the-variants.{NotOpened};
-ghost use Rattle.catalogue.specs.Books.{place-at, published, all-empty, Openable, Apart, Sound-book};
+ghost use Rattle.catalogue.specs.Books.{all-empty, Openable, Apart, Sound-book};
 ghost use Rattle.catalogue.specs.Slots.{slot-data, emptied};
 ghost use Rattle.catalogue.specs.Held.{memory, held};
 ghost use Rattle.catalogue.specs.Laws.{Book-laws};
@@ -18,7 +14,6 @@ use crate::memory::MOST_PLACES;
 use crate::refusal::Refusal;
 use crate::slot::Slot;
 use crate::slot::State;
-use heads::Head;
 
 /// Memories that no catalogue was opened over, as they were.
 #[derive(Drop)]
@@ -61,20 +56,5 @@ impl<T> Catalogue<T> {
         ensures laws { λ _. ⌜ Book-laws T ⌝ }
     {
         self.slots.len()
-    }
-
-    /// The head and tariff published at a place, if there are.
-    pub fn offer(&self, place: usize) -> Option<(Head, &T)>
-        ensures { λ r. ⌜ BySome r ((h : HeadData) (t : T) → place-at (held (now (self .entry))) place ≡ Some (published h t) → ⊥) (λ x. place-at (held (now (self .entry))) place ≡ Some (published (head-data (x .0)) (now (x .1)))) ⌝ }
-    {
-        if place >= self.slots.len() {
-            return None;
-        }
-        let slot = self.slots[place];
-        match slot.state {
-            State::Published => Some((slot.head, &self.tariffs[place])),
-            State::Empty => None,
-            State::InWork => None,
-        }
     }
 }

@@ -1,5 +1,5 @@
 -- What every head keeps to, and when two heads share a day. Assumes nothing.
-use mathlib.Core.Path.{_≡_, refl, sym, ap, _∙_}
+use mathlib.Core.Path.{_≡_, refl, ap, _∙_}
 use mathlib.Core.List.{List}
 use mathlib.Core.Logic.{_⊎_, inl, inr, ⊎-elim}
 use Prim.Native.Nat.{ℕ, _≤_, _<_}
@@ -7,7 +7,7 @@ use native.Mathlib.Omega.{arith}
 use lib.ListN.{length, getD}
 use Rattle.std.proofs.shelf.Tests.{cases-lt, cases-eq}
 use Rattle.heads.specs.Kinds.{network-code, contract-code}
-use Rattle.heads.specs.Rules.{HeadData, head-of, Sound-head, On, Share-a-day}
+use Rattle.heads.specs.Rules.{HeadData, head-of, Sound-head, Share-a-day}
 use Rattle.heads.specs.Heads.{head-data}
 use Rattle.heads.specs.declared.head.Head.{Head}
 use Rattle.heads.specs.declared.kinds.Network.{Network}

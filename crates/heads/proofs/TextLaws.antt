@@ -2,13 +2,12 @@
 use mathlib.Core.Path.{_≡_, refl, sym, ap, subst, _∙_}
 use mathlib.Core.List.{List, [], _∷_}
 use mathlib.Core.Bool.{Bool, true, false, _&&_}
-use mathlib.Core.Logic.{_≢_, _⊎_, inl, inr, ⊎-elim}
+use mathlib.Core.Logic.{_≢_, ⊎-elim}
 use Prim.Native.Nat.{ℕ, zero, suc, _+_, _≤_, _<_}
 use native.Mathlib.Omega.{arith}
 use lib.Dec.{leb}
 use lib.ListN.{length, getD, set, take, drop}
-use Rattle.std.specs.Orderings.{Decides}
-use Rattle.std.proofs.shelf.Lists.{at-drop-more, getD-set-same, getD-set-other, length-set, getD-take, length-take-le, ext-getD, getD-past}
+use Rattle.std.proofs.shelf.Lists.{at-drop-more, getD-set-same, getD-set-other, length-set, getD-take, length-take-le, ext-getD}
 use Rattle.std.proofs.shelf.Tests.{le-leb, lt-leb, leb-true, and-parts, and-from, and-left, and-right, cases-lt, cases-eq}
 use Rattle.heads.specs.Texts.{Name-text, printable}
 use Rattle.heads.specs.Names.{text-of}

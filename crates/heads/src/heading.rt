@@ -1,4 +1,4 @@
-//! Heads from raw values, their values back, and how two heads compare.
+//! Heads from raw values, and how two heads compare.
 ghost use mathlib.Core.Path.{_≡_};
 ghost use Prim.Native.Nat.{_<_, _≤_};
 ghost use Rattle.std.specs.Options.{Cases as BySome};
@@ -68,32 +68,8 @@ impl Head {
     pub fn blank() -> Head
         ensures { λ r. ⌜ head-data r ≡ blank ⌝ }
     {
-        let bytes = [
-            32,
-            0,
-            0,
-            0,
-            0,
-            0,
-            0,
-            0,
-            0,
-            0,
-            0,
-            0,
-            0,
-            0,
-            0,
-            0,
-            0,
-            0,
-            0,
-            0,
-            0,
-            0,
-            0,
-            0,
-        ];
+        let mut bytes = [0; 24];
+        bytes[0] = 32;
         let name = Name { bytes, len: 1 };
         Head {
             supplier: 0,
@@ -123,56 +99,6 @@ impl Head {
             first,
             last,
         })
-    }
-
-    /// The supplier's number. Every head keeps the rules.
-    pub fn supplier(&self) -> u16
-        ensures is { λ r. ⌜ r ≡ head-data (now (self .entry)) .supplier ⌝ }
-        ensures sound { λ r. ⌜ Sound-head (head-data (now (self .entry))) ⌝ }
-    {
-        self.supplier
-    }
-
-    /// The name's text.
-    pub fn name(&self) -> &[u8]
-        ensures { λ r. ⌜ now r ≡ head-data (now (self .entry)) .name ⌝ }
-    {
-        self.name.text()
-    }
-
-    /// The network.
-    pub fn network(&self) -> Network
-        ensures { λ r. ⌜ network-code r ≡ head-data (now (self .entry)) .network ⌝ }
-    {
-        self.network
-    }
-
-    /// The kind of contract.
-    pub fn contract(&self) -> Contract
-        ensures { λ r. ⌜ contract-code r ≡ head-data (now (self .entry)) .contract ⌝ }
-    {
-        self.contract
-    }
-
-    /// The minimum term in months.
-    pub fn term(&self) -> u8
-        ensures { λ r. ⌜ r ≡ head-data (now (self .entry)) .term ⌝ }
-    {
-        self.term
-    }
-
-    /// The first day.
-    pub fn first(&self) -> u16
-        ensures { λ r. ⌜ r ≡ head-data (now (self .entry)) .first ⌝ }
-    {
-        self.first
-    }
-
-    /// The last day; 65,535 means open.
-    pub fn last(&self) -> u16
-        ensures { λ r. ⌜ r ≡ head-data (now (self .entry)) .last ⌝ }
-    {
-        self.last
     }
 
     /// Whether the day is from the first to the last, both counted.

@@ -5,6 +5,7 @@ pub mod kinds;
 pub mod name;
 pub mod naming;
 pub mod raw;
+pub mod values;
 
 pub use head::Head;
 pub use kinds::Contract;

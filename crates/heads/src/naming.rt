@@ -2,7 +2,6 @@
 ghost use mathlib.Core.Path.{_≡_};
 ghost use Rattle.std.specs.Options.{Cases as BySome};
 ghost use Rattle.std.specs.Orderings.{Decides};
-ghost use lib.ListN.{take};
 ghost use Rattle.heads.specs.Texts.{Name-text, printable};
 ghost use Rattle.heads.specs.Names.{text-of};
 use crate::name::MOST_BYTES;
@@ -37,8 +36,15 @@ impl Name {
     pub fn is_same(&self, other: &Name) -> bool
         ensures { λ r. ⌜ Decides r (text-of (now (self .entry)) ≡ text-of (now (other .entry))) ⌝ }
     {
-        self.text() == other.text()
+        are_same(self.text(), other.text())
     }
+}
+
+// Whether two texts are the same.
+fn are_same(text: &[u8], other: &[u8]) -> bool
+    ensures { λ r. ⌜ Decides r (now (text .entry) ≡ now (other .entry)) ⌝ }
+{
+    text == other
 }
 
 // Whether each byte may stand in a name.

@@ -22,3 +22,29 @@ pub record So-far {T : Type 0} (m : Meaning T) (places : ℕ) (made rest all : L
   pub answers-are : map answer-data (vec-items after) ≡ map answer-data (vec-items before) ++ answers
   pub calls-are : made ++ rest ≡ all
   pub room : vec-len after + length rest ≤ vec-cap after
+
+module _ {T : Type 0} (m : Meaning T) (places : ℕ) where
+  -- before the first call
+  pub none-made : (all : List (Call T)) (given : Vec (Answer T) Global) (b : Book T) → Run m places [] [] b → vec-len given + length all ≤ vec-cap given → So-far m places [] all all given given b
+  none-made all given b r room = record { answers = []; run = r; answers-are = sym (append-nil _); calls-are = refl; room = room }
+
+  -- one call more
+  pub one-more : (made rest left all : List (Call T)) (before after next : Vec (Answer T) Global) (b n : Book T) (c : Call T) (a : Answer T)
+      → So-far m places made rest all before after b → rest ≡ c ∷ left → Answered m b (call-data c) (answer-data a) n
+      → vec-items next ≡ vec-items after ++ a ∷ [] → vec-len next ≡ vec-len after + 1 → vec-cap next ≡ vec-cap after
+      → So-far m places (made ++ c ∷ []) left all before next n
+  one-more made rest left all before after next b n c a s e ans items len cap′ =
+      record {
+        answers = s .answers ++ answer-data a ∷ [];
+        run = subst (λ cs. Run m places cs (s .answers ++ answer-data a ∷ []) n) (sym (map-append call-data made (c ∷ []))) (then (s .run) ans);
+        answers-are =
+          ap (map answer-data) items
+          ∙ (map-append answer-data (vec-items after) (a ∷ [])
+          ∙ (ap (λ xs. xs ++ answer-data a ∷ []) (s .answers-are)
+          ∙ append-assoc (map answer-data (vec-items before)) (s .answers) (answer-data a ∷ [])));
+        calls-are = append-assoc made (c ∷ []) left ∙ (ap (λ l. made ++ l) (sym e) ∙ s .calls-are);
+        room = omega (arith, s .room, ap length e) }
+
+  -- no call left
+  pub all-made : (made rest all : List (Call T)) (before after : Vec (Answer T) Global) (b : Book T) → So-far m places made rest all before after b → length rest ≡ 0 → made ≡ all
+  all-made made rest all before after b s z = sym (append-nil made) ∙ (ap (λ l. made ++ l) (sym (nil-from-length rest z)) ∙ s .calls-are)

@@ -51,7 +51,7 @@ returns-in-Empty g c =
       judged = entering m (c .args .place) (c .index .result .now) (c .in-Some .head) (raw-data (c .args .head .now)) (c .args .tariff) (omega arith, c .index .ensures) (c .in-Empty .is) (e .1) (e .0);
       stored = record {
         slots = map-set slot-data (vec-items (m .slots)) (c .args .place) n ∙ ap (λ (h : HeadData). set (memory m) (c .args .place) (slot-of InWork h)) (e .1);
-        tariffs = refl;
+        tariffs = refl {a = set (vec-items (m .tariffs)) (c .args .place) (c .args .tariff)};
       };
     }
 

@@ -1,6 +1,6 @@
-use mathlib.Core.Path.{refl, sym}
+use mathlib.Core.Path.{refl}
 use native.Mathlib.Omega.{arith}
-use Rattle.catalogue.proofs.BookLaws.{book-laws}
+use Rattle.catalogue.proofs.OneAnswer.{book-laws}
 use Rattle.catalogue.proofs.Holding.{held-long, held-sound}
 use Rattle.catalogue.proofs.memory.Catalogue.places.Needs as need
 

@@ -1,15 +1,13 @@
-use mathlib.Core.Path.{refl, ap, _∙_}
+use mathlib.Core.Path.{refl}
 use denote.Ref.{now}
 use native.Mathlib.Omega.{arith}
-use lib.ListN.{set}
 use Rattle.std.specs.Of.Vec.{vec-items}
 use Rattle.std.proofs.shelf.Lists.{map-set}
-use Rattle.heads.specs.Rules.{HeadData}
 use Rattle.heads.specs.Heads.{head-data}
-use Rattle.catalogue.specs.declared.slot.State.the-variants.{Empty, InWork, Published}
+use Rattle.catalogue.specs.declared.slot.State.the-variants.{Empty, Published}
 use Rattle.catalogue.specs.Calls.{publish}
-use Rattle.catalogue.specs.Slots.{slot-data, slot-of}
-use Rattle.catalogue.specs.Held.{memory, held}
+use Rattle.catalogue.specs.Slots.{slot-data}
+use Rattle.catalogue.specs.Held.{held}
 use Rattle.catalogue.proofs.Judging.{judge-missing, publish-at-empty, publish-taken}
 use Rattle.catalogue.proofs.Holding.{none-at, slot-at, stands, tariff-at}
 use Rattle.catalogue.proofs.Doing.{slot, with-slot, apart-after, publishing, publish-barred}

@@ -1,7 +1,6 @@
-use native.Mathlib.Omega.{arith}
 use Rattle.std.proofs.shelf.Tests.{leb-true, le-leb}
 use Rattle.heads.specs.Heads.{head-data}
-use Rattle.heads.proofs.HeadLaws.{crossing, shared-one, shared-other}
+use Rattle.heads.proofs.HeadLaws.{crossing, shared-other}
 use Rattle.heads.proofs.head.Head.shares_day.Needs as need
 
 pub returns-then-self-other : need.returns-then-self-other

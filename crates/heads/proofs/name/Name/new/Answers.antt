@@ -4,7 +4,7 @@ use Prim.Native.Nat.{ℕ}
 use native.Mathlib.Omega.{arith}
 use lib.ListN.{length}
 use Rattle.std.proofs.shelf.Tests.{both-ways}
-use Rattle.heads.specs.Texts.{Name-text, printable}
+use Rattle.heads.specs.Texts.{printable}
 use Rattle.heads.proofs.TextLaws.{Copied, copied-all, copied-low, copied-high, text-printable, printable-all}
 use Rattle.heads.proofs.name.Name.new.Needs as need
 use Rattle.heads.proofs.name.Name.new.Needs.{then-len-eq0·by·then-len-eq0, then-len-eq0·by·else-len-eq0·then-len-gt-MOST-BYTES, then-len-eq0·by·else-len-eq0·else-len-gt-MOST-BYTES·then-not-are-printable}
