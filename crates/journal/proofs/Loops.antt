@@ -9,11 +9,11 @@ use Rattle.std.specs.declared.vec.Vec.{Vec}
 use Rattle.std.specs.declared.alloc.Global.{Global}
 use Rattle.std.proofs.shelf.Lists.{append-nil, append-assoc, nil-from-length, map-append, length-append}
 use Rattle.tariff.specs.Totals.{Meaning}
-use Rattle.catalogue.specs.Books.{Book}
+use Rattle.catalogue.specs.Books.{Book, all-empty}
 use Rattle.journal.specs.declared.call.Call.{Call}
 use Rattle.journal.specs.declared.call.Answer.{Answer}
 use Rattle.journal.specs.Calls.{CallData, AnswerData, call-data, answer-data}
-use Rattle.journal.specs.Runs.{Answered, Run, then}
+use Rattle.journal.specs.Runs.{Answered, Run, opened, then}
 
 -- the calls made so far are a run that leads to the book held, those made and those to come are all, and there is room for the rest
 pub record So-far {T : Type 0} (m : Meaning T) (places : ℕ) (made rest all : List (Call T)) (before after : Vec (Answer T) Global) (b : Book T) : Type 0 where
@@ -38,13 +38,19 @@ module _ {T : Type 0} (m : Meaning T) (places : ℕ) where
         answers = s .answers ++ answer-data a ∷ [];
         run = subst (λ cs. Run m places cs (s .answers ++ answer-data a ∷ []) n) (sym (map-append call-data made (c ∷ []))) (then (s .run) ans);
         answers-are =
-          ap (map answer-data) items
-          ∙ (map-append answer-data (vec-items after) (a ∷ [])
-          ∙ (ap (λ xs. xs ++ answer-data a ∷ []) (s .answers-are)
-          ∙ append-assoc (map answer-data (vec-items before)) (s .answers) (answer-data a ∷ [])));
+            ap (map answer-data) items
+            ∙ (map-append answer-data (vec-items after) (a ∷ [])
+            ∙ (ap (λ xs. xs ++ answer-data a ∷ []) (s .answers-are)
+            ∙ append-assoc (map answer-data (vec-items before)) (s .answers) (answer-data a ∷ [])));
         calls-are = append-assoc made (c ∷ []) left ∙ (ap (λ l. made ++ l) (sym e) ∙ s .calls-are);
-        room = omega (arith, s .room, ap length e) }
+        room = omega (arith, s .room, ap length e);
+      }
 
   -- no call left
   pub all-made : (made rest all : List (Call T)) (before after : Vec (Answer T) Global) (b : Book T) → So-far m places made rest all before after b → length rest ≡ 0 → made ≡ all
   all-made made rest all before after b s z = sym (append-nil made) ∙ (ap (λ l. made ++ l) (sym (nil-from-length rest z)) ∙ s .calls-are)
+
+  -- no call made yet, on a book that has just been opened
+  pub none-opened : (b : Book T) (n : ℕ) → length (all-empty {T = T} n) ≡ n → b ≡ all-empty n → places ≡ length b → Run m places [] [] b
+  none-opened b n long e p =
+      subst (λ k. Run m k [] [] b) (sym (p ∙ (ap length e ∙ long))) (subst (λ x. Run m n [] [] x) (sym e) opened)

@@ -73,15 +73,15 @@ module _ {T : Type 0} (m : Meaning T) (laws : Book-laws T) where
     answers-kept (shown n k ys ∷ answers) a = ap (λ xs. shown n k ys ∷ xs) (answers-kept answers a)
     answers-kept (refused row x ∷ answers) a = answers-kept answers a
 
-    struck-step : {cs : List (CallData T)} {answers : List (AnswerData T)} {b n : Book T} {c : CallData T} {a : AnswerData T}
+    struck-step : (cs : List (CallData T)) (answers : List (AnswerData T)) {b n : Book T} {c : CallData T} {a : AnswerData T}
         → Run m places (granted-calls cs answers) (granted-answers answers) b → Answered m b c a n
         → Run m places (granted-calls cs answers ++ granted-calls (c ∷ []) (a ∷ [])) (granted-answers answers ++ granted-answers (a ∷ [])) n
-    struck-step r (changed free step) = then r (changed free step)
-    struck-step r (listed free shows) = then r (listed free shows)
-    struck-step {cs} {answers} {b} r (declined why) =
+    struck-step cs answers r (changed free step) = then r (changed free step)
+    struck-step cs answers r (listed free shows) = then r (listed free shows)
+    struck-step cs answers {b} r (declined why) =
         subst (λ xs. Run m places xs (granted-answers answers ++ []) b) (sym (append-nil (granted-calls cs answers)))
         (subst (λ ys. Run m places (granted-calls cs answers) ys b) (sym (append-nil (granted-answers answers))) r)
-    struck-step {cs} {answers} {b} r (list-declined why) =
+    struck-step cs answers {b} r (list-declined why) =
         subst (λ xs. Run m places xs (granted-answers answers ++ []) b) (sym (append-nil (granted-calls cs answers)))
         (subst (λ ys. Run m places (granted-calls cs answers) ys b) (sym (append-nil (granted-answers answers))) r)
 
@@ -90,7 +90,7 @@ module _ {T : Type 0} (m : Meaning T) (laws : Book-laws T) where
     run-struck (then {cs = cs} {as′ = answers} {n = n} {c = c} {a = a} r h) =
         subst (λ xs. Run m places xs (granted-answers (answers ++ a ∷ [])) n) (sym (calls-kept cs answers c a (run-paired r)))
         (subst (λ ys. Run m places (granted-calls cs answers ++ granted-calls (c ∷ []) (a ∷ [])) ys n) (sym (answers-kept answers a))
-        (struck-step {cs = cs} {answers = answers} (run-struck r) h))
+        (struck-step cs answers (run-struck r) h))
 
   stays : (b n : Book T) (c d : CallData T) (row : RowData) → Answered m b c (refused row d) n → (n ≡ b) × (d ≡ c)
   stays b n c d row (declined why) = (refl, refl)
@@ -103,4 +103,5 @@ module _ {T : Type 0} (m : Meaning T) (laws : Book-laws T) where
     long = λ places cs answers b r. run-long places r;
     paired = λ places cs answers b r. run-paired places r;
     declined-stays = stays;
-    struck = λ places cs answers b r. run-struck places r }
+    struck = λ places cs answers b r. run-struck places r;
+  }

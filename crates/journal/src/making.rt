@@ -23,7 +23,10 @@ pub fn answer<T: Tariff + Drop>(catalogue: &mut Catalogue<T>, call: Call<T>) -> 
     match call {
         Call::Enter(place, head, tariff) => match catalogue.enter(place, &head, tariff) {
             Ok(()) => Answer::Done,
-            Err((refusal, back)) => Answer::Refused(Refusal::Catalogue(refusal), Call::Enter(place, head, back)),
+            Err((refusal, back)) => Answer::Refused(
+                Refusal::Catalogue(refusal),
+                Call::Enter(place, head, back),
+            ),
         },
         Call::Publish(place) => changed(catalogue.publish(place), Call::Publish(place)),
         Call::Amend(place, last) => changed(catalogue.amend(place, last), Call::Amend(place, last)),

@@ -23,7 +23,12 @@ pub fn replay<T: Tariff + Drop>(given: Given<T>) -> Result<Replayed<T>, Stopped<
     if room < given.calls.len() {
         return Err(Stopped::NoRoom(given));
     }
-    let Given { slots, tariffs, calls, mut answers } = given;
+    let Given {
+        slots,
+        tariffs,
+        calls,
+        mut answers,
+    } = given;
     let mut catalogue = match Catalogue::open(slots, tariffs) {
         Ok(catalogue) => catalogue,
         Err(back) => {

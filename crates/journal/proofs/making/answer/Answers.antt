@@ -32,7 +32,7 @@ returns-in-Ok g c =
     let b = held (c .args .catalogue .now) in
     let n = held (c .enter .last .self) in
     let h : Answered (mean g) b (call-data (c .args .call)) done n =
-      subst (λ (x : Call (g .T .Denot)). Answered (mean g) b (call-data x) done n) (sym (c .in-Enter .is)) (judged-says (mean g) b n _ _ (c .in-Ok .ensures tt .judged)) in
+    subst (λ (x : Call (g .T .Denot)). Answered (mean g) b (call-data x) done n) (sym (c .in-Enter .is)) (judged-says (mean g) b n _ _ (c .in-Ok .ensures tt .judged)) in
     record { answered = h; extends = extends-by (mean g) b n _ _ h }
 
 pub returns-in-Err : need.returns-in-Err
@@ -48,8 +48,8 @@ returns-in-Err g c =
     let kept : t ≡ c .in-Err .back = sym (c .in-Err .ensures tt .stored .1) in
     let said : Answered (mean g) b (change (enter p raw t)) (refused row (change (enter p raw t))) n = judged-says (mean g) b n (enter p raw t) _ (c .in-Err .ensures tt .judged) in
     let h : Answered (mean g) b (call-data (c .args .call)) a n =
-      subst (λ (x : Call (g .T .Denot)). Answered (mean g) b (call-data x) a n) (sym (c .in-Enter .is))
-      (subst (λ u. Answered (mean g) b (change (enter p raw t)) (refused row (change (enter p raw u))) n) kept said) in
+    subst (λ (x : Call (g .T .Denot)). Answered (mean g) b (call-data x) a n) (sym (c .in-Enter .is))
+    (subst (λ u. Answered (mean g) b (change (enter p raw t)) (refused row (change (enter p raw u))) n) kept said) in
     record { answered = h; extends = extends-by (mean g) b n _ _ h }
 
 pub returns-in-Publish : need.returns-in-Publish
@@ -60,8 +60,8 @@ returns-in-Publish g c =
     let call = publish (c .in-Publish .place) in
     let a = answer-data (c .changed .result) in
     let h : Answered (mean g) b (call-data (c .args .call)) a n =
-      subst (λ (x : Call (g .T .Denot)). Answered (mean g) b (call-data x) a n) (sym (c .in-Publish .is))
-      (subst (λ x. Answered (mean g) b (change call) x n) (sym (c .changed .ensures)) (judged-says (mean g) b n call (told (c .publish .result)) (c .publish .ensures .judged))) in
+    subst (λ (x : Call (g .T .Denot)). Answered (mean g) b (call-data x) a n) (sym (c .in-Publish .is))
+    (subst (λ x. Answered (mean g) b (change call) x n) (sym (c .changed .ensures)) (judged-says (mean g) b n call (told (c .publish .result)) (c .publish .ensures .judged))) in
     record { answered = h; extends = extends-by (mean g) b n _ _ h }
 
 pub returns-in-Amend : need.returns-in-Amend
@@ -72,8 +72,8 @@ returns-in-Amend g c =
     let call = amend (c .in-Amend .place) (c .in-Amend .last) in
     let a = answer-data (c .changed-in-Amend .result) in
     let h : Answered (mean g) b (call-data (c .args .call)) a n =
-      subst (λ (x : Call (g .T .Denot)). Answered (mean g) b (call-data x) a n) (sym (c .in-Amend .is))
-      (subst (λ x. Answered (mean g) b (change call) x n) (sym (c .changed-in-Amend .ensures)) (judged-says (mean g) b n call (told (c .amend .result)) (c .amend .ensures .judged))) in
+    subst (λ (x : Call (g .T .Denot)). Answered (mean g) b (call-data x) a n) (sym (c .in-Amend .is))
+    (subst (λ x. Answered (mean g) b (change call) x n) (sym (c .changed-in-Amend .ensures)) (judged-says (mean g) b n call (told (c .amend .result)) (c .amend .ensures .judged))) in
     record { answered = h; extends = extends-by (mean g) b n _ _ h }
 
 pub returns-in-Delete : need.returns-in-Delete
@@ -84,8 +84,8 @@ returns-in-Delete g c =
     let call = delete (c .in-Delete .place) in
     let a = answer-data (c .changed-in-Delete .result) in
     let h : Answered (mean g) b (call-data (c .args .call)) a n =
-      subst (λ (x : Call (g .T .Denot)). Answered (mean g) b (call-data x) a n) (sym (c .in-Delete .is))
-      (subst (λ x. Answered (mean g) b (change call) x n) (sym (c .changed-in-Delete .ensures)) (judged-says (mean g) b n call (told (c .delete .result)) (c .delete .ensures .judged))) in
+    subst (λ (x : Call (g .T .Denot)). Answered (mean g) b (call-data x) a n) (sym (c .in-Delete .is))
+    (subst (λ x. Answered (mean g) b (change call) x n) (sym (c .changed-in-Delete .ensures)) (judged-says (mean g) b n call (told (c .delete .result)) (c .delete .ensures .judged))) in
     record { answered = h; extends = extends-by (mean g) b n _ _ h }
 
 pub returns-in-Ok-list : need.returns-in-Ok-list
@@ -102,10 +102,10 @@ returns-in-Ok-list g c =
     let a : AnswerData (g .T .Denot) = shown n k (vec-items (refilled v ys)) in
     let given = c .in-Ok-list .ensures tt .answered in
     let said : Answered (mean g) b (list q (vec-items v)) (shown n k ys) b =
-      subst (λ xs. Answered (mean g) b (list q xs) (shown n k ys) b) (c .deref-mut .ensures .value) (listed (given .0) (given .1)) in
+    subst (λ xs. Answered (mean g) b (list q xs) (shown n k ys) b) (c .deref-mut .ensures .value) (listed (given .0) (given .1)) in
     let h : Answered (mean g) b (call-data (c .args .call)) a b =
-      subst (λ (x : Call (g .T .Denot)). Answered (mean g) b (call-data x) a b) (sym (c .in-List .is))
-      (subst (λ zs. Answered (mean g) b (list q (vec-items v)) (shown n k zs) b) (sym back) said) in
+    subst (λ (x : Call (g .T .Denot)). Answered (mean g) b (call-data x) a b) (sym (c .in-List .is))
+    (subst (λ zs. Answered (mean g) b (list q (vec-items v)) (shown n k zs) b) (sym back) said) in
     record { answered = h; extends = extends-by (mean g) b b _ _ h }
 
 pub returns-in-Err-list : need.returns-in-Err-list
@@ -121,8 +121,8 @@ returns-in-Err-list g c =
     let back : vec-items (refilled v ys) ≡ vec-items v = refilled-is v ys long ∙ (given .1 ∙ c .deref-mut .ensures .value) in
     let a : AnswerData (g .T .Denot) = refused row (list q (vec-items (refilled v ys))) in
     let said : Answered (mean g) b (list q (vec-items v)) (refused row (list q (vec-items v))) b =
-      subst (λ xs. Answered (mean g) b (list q xs) (refused row (list q xs)) b) (c .deref-mut .ensures .value) (list-declined (given .0)) in
+    subst (λ xs. Answered (mean g) b (list q xs) (refused row (list q xs)) b) (c .deref-mut .ensures .value) (list-declined (given .0)) in
     let h : Answered (mean g) b (call-data (c .args .call)) a b =
-      subst (λ (x : Call (g .T .Denot)). Answered (mean g) b (call-data x) a b) (sym (c .in-List .is))
-      (subst (λ zs. Answered (mean g) b (list q (vec-items v)) (refused row (list q zs)) b) (sym back) said) in
+    subst (λ (x : Call (g .T .Denot)). Answered (mean g) b (call-data x) a b) (sym (c .in-List .is))
+    (subst (λ zs. Answered (mean g) b (list q (vec-items v)) (refused row (list q zs)) b) (sym back) said) in
     record { answered = h; extends = extends-by (mean g) b b _ _ h }
