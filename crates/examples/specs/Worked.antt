@@ -10,7 +10,11 @@ use Rattle.tariff.specs.Totals.{offer-total}
 use Rattle.prices.specs.Tables.{TableData, empty-table}
 use Rattle.prices.specs.Blocks.{BlockData, started}
 use Rattle.kinds.specs.Meanings.{plan-drawn, plan-charge, plan-floor, addon-drawn, addon-charge, addon-floor, block-charge, reduced}
+use Rattle.catalogue.specs.Calls.{publish, Declined, No-cause}
+use Rattle.catalogue.specs.Refusals.{shares-day}
+use Rattle.stages.specs.Lines.{line-of}
 use Rattle.examples.specs.Offers.{plan-table, option-table, estimate}
+use Rattle.examples.specs.Lists.{Lists, fives, nines, eights, namesakes}
 
 -- three members, in a list of three seats
 abbrev pub drawn-three : ℕ → List ℕ → List ℕ
@@ -52,3 +56,14 @@ pub record Worked-examples : Type 0 where
   pub begun-charge : block-charge 0 (Some one-block ∷ replicate 15 None) (1001 ∷ replicate 15 0) ≡ 2000
   -- a reduction of 5.00 over a floor of 3.00: a floor of 0
   pub floor-stops : reduced 500 (plan-floor plain-plan) ≡ 0
+  -- totals of 5, 5 and 7: length 1 shows two lines, 2 and 3 show three
+  pub two-lines : Lists fives 1 (line-of 0 5 ∷ line-of 1 5 ∷ []) 2
+  pub three-lines : Lists fives 2 (line-of 0 5 ∷ line-of 1 5 ∷ line-of 2 7 ∷ []) 3
+  pub all-lines : Lists fives 3 (line-of 0 5 ∷ line-of 1 5 ∷ line-of 2 7 ∷ []) 3
+  -- floors of 3, 5 and 9 with totals of 8, 6 and 9, length 1: two costed, one shown, total 6
+  pub early-end : Lists nines 1 (line-of 1 6 ∷ []) 2
+  -- with a third floor and total of 8: three costed, one shown
+  pub no-early-end : Lists eights 1 (line-of 1 6 ∷ []) 3
+  -- a namesake is published for days 10 to 20: publishing days 20 to 30 is declined with 210 and its place; 21 to 30 is accepted
+  pub shared-day : Declined (namesakes 20 30) (publish 1) (shares-day 0)
+  pub no-shared-day : No-cause (namesakes 21 30) (publish 1)
