@@ -33,9 +33,15 @@ shared-day = record { holds = publish-shares-day refl lowest; topmost = top }
     lowest : Lowest (Rival (namesakes 20 30) 1 (days 20 30)) 0
     lowest = record {
       holds = record {
-        elsewhere = λ e. omega arith; rival = days 10 20; tariff = 0; there = refl; namesakes = (refl, refl);
-        shares = record { day = 20; on-one = (omega arith, omega arith); on-other = (omega arith, omega arith) } };
-      none-lower = λ i h r. omega arith }
+        elsewhere = λ e. omega arith;
+        rival = days 10 20;
+        tariff = 0;
+        there = refl;
+        namesakes = (refl, refl);
+        shares = record { day = 20; on-one = (omega arith, omega arith); on-other = (omega arith, omega arith) };
+      };
+      none-lower = λ i h r. omega arith;
+    }
 
     top : (other : RowData) → Row (namesakes 20 30) (publish 1) other → Higher (other .number) 210 → ⊥
     top _ (no-such-place e) r = none-some _ _ e refl
