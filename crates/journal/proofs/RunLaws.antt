@@ -2,20 +2,27 @@
 use mathlib.Core.Path.{_≡_, refl, sym, ap, subst, _∙_}
 use mathlib.Core.List.{List, [], _∷_, _++_}
 use mathlib.Core.Logic.{_⊎_, inl, inr, ⊎-elim}
-use Prim.Native.Nat.{ℕ, _+_}
+use Prim.Native.Nat.{ℕ, _+_, _-_}
 use native.Mathlib.Omega.{arith}
-use lib.ListN.{length}
+use lib.ListN.{length, replicate}
 use Rattle.std.specs.declared.option.Option.{Option}
 use Rattle.std.specs.declared.option.Option.the-variants.{Some, None}
-use Rattle.std.proofs.shelf.Lists.{append-nil, length-push}
+use Rattle.std.proofs.shelf.Lists.{append-nil, length-push, same-from-push}
 use Rattle.refusal.specs.Rows.{RowData}
 use Rattle.tariff.specs.Totals.{Meaning}
 use Rattle.catalogue.specs.Books.{Book, all-empty, Apart, Sound-book}
 use Rattle.catalogue.specs.Calls.{Change, Judged, Day-fits}
 use Rattle.catalogue.specs.Calls as book
 use Rattle.catalogue.specs.Laws.{Book-laws}
+use Rattle.catalogue.proofs.Places.{same-some}
 use Rattle.ordered.specs.Members.{Among}
 use Rattle.ordered.proofs.Members.{append-among}
+use Rattle.stages.specs.declared.line.Line.{Line}
+use Rattle.stages.specs.Lines.{blank}
+use Rattle.listing.specs.Enquiries.{EnquiryData}
+use Rattle.listing.specs.Answers.{List-shown}
+use Rattle.listing.proofs.Bridge.{list-fixed}
+use Rattle.listing.proofs.Causes.{one-row}
 use Rattle.journal.specs.Calls.{CallData, change, list, AnswerData, done, shown, refused}
 use Rattle.journal.specs.Runs.{Answered, changed, listed, declined, list-declined, Run, opened, then}
 use Rattle.journal.specs.Laws.{Days-fit, granted-calls, granted-answers, Run-laws}
@@ -96,6 +103,38 @@ module _ {T : Type 0} (m : Meaning T) (laws : Book-laws T) where
   stays b n c d row (declined why) = (refl, refl)
   stays b n c d row (list-declined why) = (refl, refl)
 
+  -- two lists shown into the same memory are one answer
+  shown-same : (b : Book T) (q : EnquiryData) (xs ys zs : List Line) (n k i j : ℕ) → List-shown m b q xs n k ys → List-shown m b q xs i j zs → _≡_ {A = AnswerData T} (shown n k ys) (shown i j zs)
+  shown-same b q xs ys zs n k i j s t =
+      let f = list-fixed m q b (s .lines) (t .lines) k j (s .shows) (t .shows) in
+      let lines : n ≡ i = s .counts ∙ (ap length (f .0) ∙ sym (t .counts)) in
+      let memory : ys ≡ zs = s .written .memory ∙ (ap (λ ls. ls ++ replicate (length xs - length ls) blank) (f .0) ∙ sym (t .written .memory)) in
+      ap (λ x. shown x k ys) lines ∙ (ap (λ x. shown i x ys) (f .1) ∙ ap (λ x. shown i j x) memory)
+
+  -- two answers to one call on one book are the same, and leave the same book
+  one-answer : {b n k : Book T} {c : CallData T} {a e : AnswerData T} → Answered m b c a n → Answered m b c e k → (a ≡ e) × (n ≡ k)
+  one-answer {b} {n} {k} (changed {c = c} free step) (changed right same) = (refl, laws .one-answer b c n k None None (book.done free step) (book.done right same) .1)
+  one-answer (changed free step) (declined {row = row} why) = absurd (free row (why .holds))
+  one-answer (declined {row = row} why) (changed free step) = absurd (free row (why .holds))
+  one-answer {b} (declined {c = c} {row = row} why) (declined {row = other} because) =
+      (ap (λ r. refused r (change c)) (same-some (Some row) row other refl (laws .one-answer b c b b (Some row) (Some other) (book.declined why) (book.declined because) .0)), refl)
+  one-answer {b} (listed {q = q} {xs = xs} {ys = ys} {lines = n} {costed = k} free s) (listed {ys = zs} {lines = i} {costed = j} right t) = (shown-same b q xs ys zs n k i j s t, refl)
+  one-answer (listed free s) (list-declined {row = row} why) = absurd (free row (why .holds))
+  one-answer (list-declined {row = row} why) (listed free s) = absurd (free row (why .holds))
+  one-answer {b} (list-declined {q = q} {xs = xs} {row = row} why) (list-declined {row = other} because) =
+      (ap (λ r. refused r (list q xs)) (one-row (length b) (length xs) q row other why because), refl)
+
+  -- two runs of the same calls
+  one-run : (places : ℕ) {cs ds : List (CallData T)} {answers others : List (AnswerData T)} {b n : Book T} → Run m places cs answers b → Run m places ds others n → cs ≡ ds → (answers ≡ others) × (b ≡ n)
+  one-run places opened opened e = (refl, refl)
+  one-run places opened (then {cs = ds} {c = d} r h) e = absurd (omega (arith, ap length e, length-push ds d))
+  one-run places (then {cs = cs} {c = c} r h) opened e = absurd (omega (arith, ap length e, length-push cs c))
+  one-run places (then {cs = cs} {as′ = answers} {b = b} {c = c} {a = a} r h) (then {cs = ds} {as′ = others} {n = n} {c = d} {a = o} s i) e =
+      let p = same-from-push cs ds c d e in
+      let so = one-run places r s (p .0) in
+      let w = one-answer h (subst (λ x. Answered m b x o n) (sym (p .1)) (subst (λ x. Answered m x d o n) (sym (so .1)) i)) in
+      (ap (λ xs. xs ++ a ∷ []) (so .0) ∙ ap (λ x. others ++ x ∷ []) (w .0), w .1)
+
   pub run-laws : Run-laws m
   run-laws = record {
     apart = λ places cs answers b r. run-apart places r;
@@ -104,4 +143,5 @@ module _ {T : Type 0} (m : Meaning T) (laws : Book-laws T) where
     paired = λ places cs answers b r. run-paired places r;
     declined-stays = stays;
     struck = λ places cs answers b r. run-struck places r;
+    fixed = λ places cs answers others b n r s. one-run places r s refl;
   }

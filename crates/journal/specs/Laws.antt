@@ -44,3 +44,5 @@ pub record Run-laws {T : Type 0} (m : Meaning T) : Type 0 where
   pub declined-stays : (b n : Book T) (c d : CallData T) (row : RowData) → Answered m b c (refused row d) n → (n ≡ b) × (d ≡ c)
   -- without its declined calls a run has the same other answers and ends in the same book
   pub struck : (places : ℕ) (cs : List (CallData T)) (answers : List (AnswerData T)) (b : Book T) → Run m places cs answers b → Run m places (granted-calls cs answers) (granted-answers answers) b
+  -- what every call is answered and the book at the end are fixed by the calls and the number of places
+  pub fixed : (places : ℕ) (cs : List (CallData T)) (answers others : List (AnswerData T)) (b n : Book T) → Run m places cs answers b → Run m places cs others n → (answers ≡ others) × (b ≡ n)

@@ -22,16 +22,17 @@ use Rattle.ordered.proofs.Places.{ascending-nth, nth-ascending, nth-of-map}
 use Rattle.stages.specs.declared.line.Line.{Line}
 use Rattle.stages.specs.Lines.{earlier}
 use Rattle.ranking.specs.declared.queued.Queued.{Queued}
-use Rattle.ranking.specs.Offers.{Offer, offer-at, Fitting}
+use Rattle.ranking.specs.Offers.{Offer, offer-at, Fitting, Floors-hold}
 use Rattle.ranking.specs.Totals.{totals, places, different}
-use Rattle.ranking.specs.Queues.{sooner, queued-of, queued-at, Lined-up}
+use Rattle.ranking.specs.Queues.{sooner, queued-of, queued-at, queue, Lined-up}
 use Rattle.ranking.specs.Costing.{Ends, totals-of, Ends-before, Taken, Counted}
 use Rattle.ranking.specs.Cheapest.{Cheapest, Ranking}
-use Rattle.ranking.proofs.Fixes.{answer-fixed}
+use Rattle.ranking.proofs.Lining.{queue-only, queue-fitting, queue-few}
+use Rattle.ranking.proofs.Fixes.{answer-fixed, lines-costed, counts-bounded}
 use Rattle.listing.specs.Enquiries.{EnquiryData}
 use Rattle.listing.specs.Fitting.{Placed, Fits, total-of}
 use Rattle.listing.specs.Shown.{Shows, Shows-offer, Earlier, Sooner, Taking-ends, In-turn, Costed, Shown}
-use Rattle.listing.specs.Tests.{offers}
+use Rattle.listing.specs.Tests.{offer-of, offers}
 use Rattle.listing.specs.Theorems.{List-fixed}
 use Rattle.listing.proofs.Fits.{fit-at, fits-fit, fits-total, fits-floor, fits-same}
 
@@ -247,3 +248,21 @@ module _ {T : Type 0} (m : Meaning T) (q : EnquiryData) (b : Book T) where
   -- two answers that show such a list are equal
   pub list-fixed : List-fixed m b q
   list-fixed ls ms n k s t = answer-fixed (q .length) (offers m b q) ls ms n k (ranking-by ls n s) (ranking-by ms k t)
+
+  -- where floors hold, no more lines are shown than offers costed, and no more offers are costed than there are places
+  pub list-bounded : Floors-hold (offers m b q) → (ls : List Line) (n : ℕ) → Shown m b q ls n → (length ls ≤ n) × (n ≤ length b)
+  list-bounded floors ls n s =
+      let os = offers m b q in
+      let c = counts-bounded (q .length) os ls n floors (ranking-by ls n s) in
+      (c .0, omega (arith, c .1, queue-fitting os, queue-few os (length os), length-map b (offer-of m q)))
+
+  -- and every line was costed
+  pub line-costed : Floors-hold (offers m b q) → (ls : List Line) (n : ℕ) (s : Shown m b q ls n) (l : Line) → Among l ls
+      → Among (l .place) (map (λ (o : Placed T). o .place) (take n (s .count .offers)))
+  line-costed floors ls n s l i =
+      let os = s .count .offers in
+      let here = queued-at (offers m b q) (l .place) in
+      let is : take n (queue (offers m b q)) ≡ map waits (take n os) =
+      ap (take n) (sym (queue-only (offers m b q) (map waits os) (turn-lines os (s .count .in-turn)))) ∙ take-map waits n os in
+      let w = among-map waits here (take n os) (subst (Among here) is (lines-costed (q .length) (offers m b q) ls n floors (ranking-by ls n s) l i)) in
+      subst (λ p. Among p (map (λ (o : Placed T). o .place) (take n os))) (sym (ap (λ (x : Queued). x .place) (w .2))) (map-among (λ (o : Placed T). o .place) (w .0) (take n os) (w .1))

@@ -1,11 +1,13 @@
 -- Which row declines a list call. Assumes nothing.
-use mathlib.Core.Path.{_≡_}
+use mathlib.Core.Path.{_≡_, refl, sym, ap, _∙_}
 use mathlib.Core.Logic.{_⊎_, ⊎-elim}
 use Prim.Native.Nat.{ℕ, _≤_, _<_}
 use native.Mathlib.Omega.{arith}
+use lib.ListN.{getD}
+use Rattle.std.proofs.shelf.Tests.{cases-order}
 use Rattle.refusal.specs.Rows.{RowData, bare}
 use Rattle.usage.specs.UsesLists.{Uses-list}
-use Rattle.catalogue.specs.Table.{Higher}
+use Rattle.catalogue.specs.Table.{table, rank, Higher}
 use Rattle.listing.specs.Enquiries.{EnquiryData, Sound-values}
 use Rattle.listing.specs.Table.{List-row, bad-length, bad-values, short-memory, bad-uses, List-declined, List-no-cause}
 
@@ -54,3 +56,17 @@ module _ (places room : ℕ) (q : EnquiryData) where
   no-row low high sound long uses _ (bad-values h) = h sound
   no-row low high sound long uses _ (short-memory h) = omega arith
   no-row low high sound long uses _ (bad-uses h) = h uses
+
+  -- a row is the one at its place in the table
+  row-there : (row : RowData) → List-row places room q row → row ≡ bare (getD table (rank (row .number)) 0)
+  row-there _ (bad-length h) = refl
+  row-there _ (bad-values h) = refl
+  row-there _ (short-memory h) = refl
+  row-there _ (bad-uses h) = refl
+
+  -- only one row declines
+  pub one-row : (row other : RowData) → List-declined places room q row → List-declined places room q other → row ≡ other
+  one-row row other d e =
+      ⊎-elim (λ same. row-there row (d .holds) ∙ (ap (λ k. bare (getD table k 0)) same ∙ sym (row-there other (e .holds))))
+      (⊎-elim (λ h. absurd (e .topmost row (d .holds) h)) (λ h. absurd (d .topmost other (e .holds) h)))
+      (cases-order (rank (row .number)) (rank (other .number)))

@@ -1,9 +1,10 @@
 //! The list call.
+ghost use lib.ListN.{length};
 ghost use Rattle.tariff.specs.Totals.{meaning};
 ghost use Rattle.catalogue.specs.Held.{held};
 ghost use Rattle.listing.specs.Enquiries.{enquiry-data};
 ghost use Rattle.listing.specs.Answers.{List-answered};
-ghost use Rattle.listing.specs.Theorems.{List-fixed};
+ghost use Rattle.listing.specs.Theorems.{List-fixed, List-bounded, Lines-costed};
 use crate::enquiry::Enquiry;
 use crate::queueing::gather;
 use crate::queueing::line_up;
@@ -26,6 +27,8 @@ pub fn list<T: Tariff>(
 ) -> Result<(usize, usize), Refusal>
     ensures answered { λ r. ⌜ List-answered (meaning served drawn charged floor) (held (now (catalogue .entry))) (enquiry-data (now (enquiry .entry))) (now (memory .entry)) r (now (memory .exit)) ⌝ }
     ensures fixed { λ _. ⌜ List-fixed (meaning served drawn charged floor) (held (now (catalogue .entry))) (enquiry-data (now (enquiry .entry))) ⌝ }
+    ensures bounded { λ r. ⌜ List-bounded (length (held (now (catalogue .entry)))) r ⌝ }
+    ensures costed { λ _. ⌜ Lines-costed (meaning served drawn charged floor) (held (now (catalogue .entry))) (enquiry-data (now (enquiry .entry))) ⌝ }
 {
     let Ok(begun) = Gathering::begin(enquiry.length) else {
         return Err(Refusal::ListLength);

@@ -5,6 +5,7 @@ use lib.ListN.{length, take}
 use Rattle.std.proofs.shelf.Tests.{both-ways}
 use Rattle.tariff.specs.Totals.{Meaning, meaning}
 use Rattle.usage.specs.UsesLists.{Uses-list}
+use Rattle.catalogue.specs.Books.{Book}
 use Rattle.catalogue.specs.Held.{held}
 use Rattle.stages.specs.declared.gathering.Gathering.{Gathering}
 use Rattle.stages.specs.Cutting.{keeps}
@@ -15,10 +16,11 @@ use Rattle.ranking.specs.Steps.{gathered, cut-lines}
 use Rattle.ranking.proofs.Meets.{steps-show}
 use Rattle.listing.specs.Enquiries.{EnquiryData, enquiry-data, Sound-values}
 use Rattle.listing.specs.Shown.{Shown}
+use Rattle.listing.specs.Theorems.{Lines-costed}
 use Rattle.listing.specs.Tests.{sound-values, offers}
 use Rattle.listing.proofs.Fits.{values-sound, sound-is}
 use Rattle.listing.proofs.Causes.{length-row, values-row, memory-row, uses-row, no-row}
-use Rattle.listing.proofs.Bridge.{shown-by, list-fixed}
+use Rattle.listing.proofs.Bridge.{shown-by, list-fixed, list-bounded, line-costed}
 use Rattle.listing.proofs.Steps.{front, floors-hold, written-by}
 use Rattle.listing.proofs.listing.list.Given as given
 use Rattle.listing.proofs.listing.list.Needs as need
@@ -26,12 +28,22 @@ use Rattle.listing.proofs.listing.list.Needs as need
 mean : (g : given.Over) → Meaning (g .T .Denot)
 mean g = meaning (g .T·Tariff .served) (g .T·Tariff .drawn) (g .T·Tariff .charged) (g .T·Tariff .floor)
 
+-- every line shown was costed, by the laws of the tariffs
+all-costed : (g : given.Over) (q : EnquiryData) (b : Book (g .T .Denot)) → Lines-costed (mean g) b q
+unfolding mean
+all-costed g q b uses = line-costed (mean g) q b (floors-hold (mean g) q b (g .T·Tariff·met .keeps) (g .T·Tariff·met .lowers) (g .T·Tariff·met .above) uses)
+
 pub returns-in-rest : need.returns-in-rest
 unfolding mean
 returns-in-rest g c =
     let b = held (c .args .catalogue .now) in
     let q = enquiry-data (c .args .enquiry .now) in
-    record { answered = (length-row (length b) (length (c .args .memory .now)) q (c .in-rest .ensures tt .1), refl); fixed = list-fixed (mean g) q b }
+    record {
+      answered = (length-row (length b) (length (c .args .memory .now)) q (c .in-rest .ensures tt .1), refl);
+      fixed = list-fixed (mean g) q b;
+      bounded = tt;
+      costed = all-costed g q b;
+    }
 
 pub returns-then-not-is-sound : need.returns-then-not-is-sound
 unfolding mean
@@ -42,6 +54,8 @@ returns-then-not-is-sound g c =
     record {
       answered = (values-row (length b) (length (c .args .memory .now)) q (began .0) (began .1) (λ s. both-ways (sound-values q) (sym (c .if-not-is-sound .ensures tt)) (sound-is q s)), refl);
       fixed = list-fixed (mean g) q b;
+      bounded = tt;
+      costed = all-costed g q b;
     }
 
 pub returns-then-memory-places : need.returns-then-memory-places
@@ -53,6 +67,8 @@ returns-then-memory-places g c =
     record {
       answered = (memory-row (length b) (length (c .args .memory .now)) q (began .0) (began .1) (values-sound q (sym (c .if-not-is-sound .ensures tt))) (omega (arith, c .places .ensures .is)), refl);
       fixed = list-fixed (mean g) q b;
+      bounded = tt;
+      costed = all-costed g q b;
     }
 
 pub returns-in-rest-new : need.returns-in-rest-new
@@ -65,6 +81,8 @@ returns-in-rest-new g c =
     record {
       answered = (uses-row (length b) (length (c .args .memory .now)) q (began .0) (began .1) (values-sound q (sym (c .if-not-is-sound .ensures tt))) (omega (arith, c .places .ensures .is)) out, refl);
       fixed = list-fixed (mean g) q b;
+      bounded = tt;
+      costed = all-costed g q b;
     }
 
 pub returns-in-Ok-cut : need.returns-in-Ok-cut
@@ -96,15 +114,19 @@ returns-in-Ok-cut g c =
     let written = written-by xs mem (c .cut .last .memory) ls costed len shown (c .gather-stage .kept .memory) (made .room) lines is within (made .cleared) in
     let counted : costed ≡ c .held-costed .result = sym (c .held-costed .ensures) in
     let shows = shown-by m q b (cut-lines len ls) costed (c .places .ensures .apart) (steps-show len os costed floors taken) in
+    let bounds = list-bounded m q b floors (cut-lines len ls) costed shows in
+    let same : c .shown .result ≡ length (cut-lines len ls) = c .shown .ensures ∙ written .1 in
     record {
       answered = (
         no-row (length b) (length xs) q (began .0) (began .1) (values-sound q (sym (c .if-not-is-sound .ensures tt))) (omega (arith, c .places .ensures .is)) uses,
         record {
           lines = cut-lines len ls;
           shows = subst (λ k. Shown m b q (cut-lines len ls) k) counted shows;
-          counts = c .shown .ensures ∙ written .1;
+          counts = same;
           written = written .0;
         },
       );
       fixed = list-fixed m q b;
+      bounded = (omega (arith, bounds .0), omega (arith, bounds .1));
+      costed = all-costed g q b;
     }
