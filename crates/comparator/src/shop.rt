@@ -8,14 +8,14 @@ use journal::Call;
 use journal::Given;
 use kinds::DataOffer;
 use kinds::PhoneOffer;
+use kinds::addon::AddOnClone;
+use kinds::promotion::PromotionClone;
 use listing::Enquiry;
 use stages::Line;
 use std::alloc::AllocError;
 use std::alloc::Global;
 use std::error::AnyError;
 use usage::Refusal;
-use kinds::addon::AddOnClone;
-use kinds::promotion::PromotionClone;
 
 // What was made of an example's own values.
 fn made<T: Drop>(value: Result<T, Refusal>) -> Result<T, AnyError> {
