@@ -31,7 +31,10 @@ fn told(answer: Result<(), Refusal>) -> u16 {
 fn shop(heap: Global) -> Result<Catalogue<u32>, Fail> {
     let mut catalogue = opened(heap, 3, 0u32)?;
     let head = subscription(heap, 65, 10, 20)?;
-    let numbers = [entering(&mut catalogue, 1, &head), number(catalogue.publish(1))];
+    let numbers = [
+        entering(&mut catalogue, 1, &head),
+        number(catalogue.publish(1)),
+    ];
     check_told(&numbers, &[0, 0])?;
     Ok(catalogue)
 }

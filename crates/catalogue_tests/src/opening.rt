@@ -39,6 +39,10 @@ fn places(rt: LibcRuntime) -> Result<(), Fail> {
 #[test]
 fn unequal_memories(rt: LibcRuntime) -> Result<(), Fail> {
     let heap = rt.alloc();
-    let told = [opening(heap, 2, 1)?, opening(heap, 1, 2)?, opening(heap, 1, 0)?];
+    let told = [
+        opening(heap, 2, 1)?,
+        opening(heap, 1, 2)?,
+        opening(heap, 1, 0)?,
+    ];
     check_told(&told, &[8, 8, 8])
 }
