@@ -13,6 +13,9 @@ use std::error::AnyError;
 use std::io;
 use tariff::Tariff;
 
+// No refusal has more values.
+const MOST_VALUES: usize = 3;
+
 /// Replays the calls and prints each answer behind its label, with the lines of each list.
 pub fn print_run<T: Tariff + Drop>(
     rt: &impl Print,
@@ -110,13 +113,19 @@ fn print_line<T>(rt: &impl Print, catalogue: &Catalogue<T>, line: &Line) -> io::
 fn print_refusal(rt: &impl Print, refusal: &Refusal) -> io::Result<()> {
     let number = refusal.number();
     print!(rt, "refused {number}")?;
-    if let Some(value) = refusal.value(0) {
-        match value {
-            Value::Place(place) => print!(rt, " place {place}")?,
-            Value::Node(node) => print!(rt, " node {node}")?,
-            Value::Byte(byte) => print!(rt, " byte {byte}")?,
-            Value::Layer(layer) => print!(rt, " layer {layer}")?,
+    for at in 0..MOST_VALUES {
+        if let Some(value) = refusal.value(at) {
+            print_value(rt, value)?;
         }
     }
     rt.println("")
+}
+
+fn print_value(rt: &impl Print, value: Value) -> io::Result<()> {
+    match value {
+        Value::Place(place) => print!(rt, " place {place}"),
+        Value::Node(node) => print!(rt, " node {node}"),
+        Value::Byte(byte) => print!(rt, " byte {byte}"),
+        Value::Layer(layer) => print!(rt, " layer {layer}"),
+    }
 }

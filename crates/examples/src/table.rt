@@ -2,8 +2,6 @@
 ghost use Rattle.examples.specs.Worked.{Worked-examples};
 
 /// The worked examples hold.
-pub fn worked_examples() -> bool
-    ensures { λ r. ⌜ Worked-examples ⌝ }
-{
-    true
-}
+pub fn worked_examples()
+    ensures { λ _. ⌜ Worked-examples ⌝ }
+{}

@@ -17,16 +17,17 @@ use Rattle.journal.specs.Runs.{Answered, Run, opened, then}
 
 -- the calls made so far are a run that leads to the book held, those made and those to come are all, and there is room for the rest
 pub record So-far {T : Type 0} (m : Meaning T) (places : ℕ) (made rest all : List (Call T)) (before after : Vec (Answer T) Global) (b : Book T) : Type 0 where
-  pub answers : List (AnswerData T)
-  pub run : Run m places (map call-data made) answers b
-  pub answers-are : map answer-data (vec-items after) ≡ map answer-data (vec-items before) ++ answers
+  pub said : List (Answer T)
+  pub run : Run m places (map call-data made) (map answer-data said) b
+  pub answers-are : vec-items after ≡ vec-items before ++ said
+  pub room-kept : vec-cap after ≡ vec-cap before
   pub calls-are : made ++ rest ≡ all
   pub room : vec-len after + length rest ≤ vec-cap after
 
 module _ {T : Type 0} (m : Meaning T) (places : ℕ) where
   -- before the first call
   pub none-made : (all : List (Call T)) (given : Vec (Answer T) Global) (b : Book T) → Run m places [] [] b → vec-len given + length all ≤ vec-cap given → So-far m places [] all all given given b
-  none-made all given b r room = record { answers = []; run = r; answers-are = sym (append-nil _); calls-are = refl; room = room }
+  none-made all given b r room = record { said = []; run = r; answers-are = sym (append-nil (vec-items given)); room-kept = refl; calls-are = refl; room = room }
 
   -- one call more
   pub one-more : (made rest left all : List (Call T)) (before after next : Vec (Answer T) Global) (b n : Book T) (c : Call T) (a : Answer T)
@@ -35,13 +36,11 @@ module _ {T : Type 0} (m : Meaning T) (places : ℕ) where
       → So-far m places (made ++ c ∷ []) left all before next n
   one-more made rest left all before after next b n c a s e ans items len cap′ =
       record {
-        answers = s .answers ++ answer-data a ∷ [];
-        run = subst (λ cs. Run m places cs (s .answers ++ answer-data a ∷ []) n) (sym (map-append call-data made (c ∷ []))) (then (s .run) ans);
-        answers-are =
-            ap (map answer-data) items
-            ∙ (map-append answer-data (vec-items after) (a ∷ [])
-            ∙ (ap (λ xs. xs ++ answer-data a ∷ []) (s .answers-are)
-            ∙ append-assoc (map answer-data (vec-items before)) (s .answers) (answer-data a ∷ [])));
+        said = s .said ++ a ∷ [];
+        run = subst (λ cs. Run m places cs (map answer-data (s .said ++ a ∷ [])) n) (sym (map-append call-data made (c ∷ [])))
+            (subst (λ xs. Run m places (map call-data made ++ call-data c ∷ []) xs n) (sym (map-append answer-data (s .said) (a ∷ []))) (then (s .run) ans));
+        answers-are = items ∙ (ap (λ xs. xs ++ a ∷ []) (s .answers-are) ∙ append-assoc (vec-items before) (s .said) (a ∷ []));
+        room-kept = cap′ ∙ s .room-kept;
         calls-are = append-assoc made (c ∷ []) left ∙ (ap (λ l. made ++ l) (sym e) ∙ s .calls-are);
         room = omega (arith, s .room, ap length e);
       }

@@ -5,7 +5,14 @@ use Prim.Native.Nat.{ℕ}
 use lib.ListN.{length}
 use Rattle.std.specs.declared.option.Option.{Option}
 use Rattle.std.specs.declared.option.Option.the-variants.{Some, None}
+use Rattle.std.specs.Results.{Cases}
+use Rattle.std.specs.declared.result.Result.{Result}
+use Rattle.std.specs.declared.result.Result.the-variants.{Ok, Err}
 use Rattle.refusal.specs.Rows.{RowData}
+use Rattle.catalogue.specs.Answers.{told}
+use Rattle.catalogue.specs.declared.memory.Catalogue.{Catalogue}
+use Rattle.catalogue.specs.declared.refusal.Refusal.{Refusal}
+use Rattle.journal.specs.Stores.{Writes, Stored}
 use Rattle.tariff.specs.Totals.{Meaning}
 use Rattle.catalogue.specs.Books.{Book}
 use Rattle.catalogue.specs.Calls.{Change, Judged}
@@ -22,3 +29,8 @@ module _ {T : Type 0} (m : Meaning T) where
   -- the call goes behind any run that led to the book before
   pub extends-by : (b n : Book T) (c : CallData T) (a : AnswerData T) → Answered m b c a n → Extends m b c a n
   extends-by b n c a h places cs answers r = then r h
+
+-- what a change writes, by what the catalogue said
+pub stored-says : {T : Type 0} (old new : Catalogue T) (c : Change T) (r : Result Unit Refusal) → Cases r (λ _. Writes old c new) (λ _. new ≡ old) → Stored old (change c) (said-to (told r) (change c)) new
+stored-says old new c (Ok u) p = p
+stored-says old new c (Err e) p = p

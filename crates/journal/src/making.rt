@@ -5,6 +5,7 @@ ghost use Rattle.catalogue.specs.Answers.{told};
 ghost use Rattle.catalogue.specs.Held.{held};
 ghost use Rattle.journal.specs.Calls.{call-data, answer-data, said-to};
 ghost use Rattle.journal.specs.Runs.{Answered, Extends};
+ghost use Rattle.journal.specs.Stores.{Stored};
 use crate::call::Answer;
 use crate::call::Call;
 use crate::refusal::Refusal;
@@ -18,6 +19,7 @@ use tariff::Tariff;
 /// Its answer is what the book says that the catalogue holds, and it goes behind any run that led to that book.
 pub fn answer<T: Tariff + Drop>(catalogue: &mut Catalogue<T>, call: Call<T>) -> Answer<T>
     ensures answered { λ r. ⌜ Answered (meaning served drawn charged floor) (held (now (catalogue .entry))) (call-data call) (answer-data r) (held (now (catalogue .exit))) ⌝ }
+    ensures stored { λ r. ⌜ Stored (now (catalogue .entry)) (call-data call) (answer-data r) (now (catalogue .exit)) ⌝ }
     ensures extends { λ r. ⌜ Extends (meaning served drawn charged floor) (held (now (catalogue .entry))) (call-data call) (answer-data r) (held (now (catalogue .exit))) ⌝ }
 {
     match call {

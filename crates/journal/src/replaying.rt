@@ -32,12 +32,13 @@ pub fn replay<T: Tariff + Drop>(given: Given<T>) -> Result<Replayed<T>, Stopped<
     let mut catalogue = match Catalogue::open(slots, tariffs) {
         Ok(catalogue) => catalogue,
         Err(back) => {
-            return Err(Stopped::NotOpened(Given {
+            let given = Given {
                 slots: back.slots,
                 tariffs: back.tariffs,
                 calls,
                 answers,
-            }));
+            };
+            return Err(Stopped::NotOpened(back.refusal, given));
         }
     };
     for call in calls {

@@ -2,6 +2,7 @@
 use crate::call::Answer;
 use crate::call::Call;
 use catalogue::Catalogue;
+use catalogue::Refusal;
 use catalogue::Slot;
 
 /// What a replay is given: the catalogue's two memories, the calls, and room for their answers.
@@ -29,6 +30,6 @@ pub struct Replayed<T> {
 pub enum Stopped<T> {
     /// There is room for fewer answers than there are calls.
     NoRoom(Given<T>),
-    /// No catalogue opens over the memories.
-    NotOpened(Given<T>),
+    /// No catalogue opens over the memories, and why.
+    NotOpened(Refusal, Given<T>),
 }

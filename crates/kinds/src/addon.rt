@@ -6,7 +6,7 @@ use prices::PriceTable;
 use tariff::Tariff;
 use usage::Uses;
 
-/// What documents and commands call an *option* (the name `Option` is taken): a fixed sum, prices and groups over a tariff below.
+/// What `docs/` and the program call an *option* (the name `Option` is taken): a fixed sum, prices and groups over a tariff below.
 ///
 /// A seat without a price of its own is the tariff below's.
 #[derive(Clone, Copy)]

@@ -16,7 +16,7 @@ use Rattle.heads.specs.Rules.{HeadData, Namesakes, Share-a-day}
 use Rattle.catalogue.specs.Books.{Book, Place, published, place-at, Meeting, Apart as Apart-book}
 use Rattle.catalogue.proofs.Places.{none-some, same-some, nth-map, nth-within}
 use Rattle.ordered.specs.Ascending.{ascending}
-use Rattle.ordered.specs.Members.{Among, Apart}
+use Rattle.ordered.specs.Members.{Among, No-repeats}
 use Rattle.ordered.proofs.Members.{among-map, map-among, among-take}
 use Rattle.ordered.proofs.Places.{ascending-nth, nth-ascending, nth-of-map}
 use Rattle.stages.specs.declared.line.Line.{Line}

@@ -9,7 +9,7 @@ use Rattle.std.specs.declared.option.Option.the-variants.{Some}
 use Rattle.tariff.specs.Totals.{Meaning}
 use Rattle.heads.specs.Rules.{Namesakes}
 use Rattle.catalogue.specs.Books.{Book}
-use Rattle.ordered.specs.Members.{Among, Apart}
+use Rattle.ordered.specs.Members.{Among, No-repeats}
 use Rattle.stages.specs.declared.line.Line.{Line}
 use Rattle.ranking.specs.Totals.{totals, places, different}
 use Rattle.listing.specs.Enquiries.{EnquiryData}
@@ -66,7 +66,7 @@ pub record Shown {T : Type 0} (m : Meaning T) (b : Book T) (q : EnquiryData) (ls
   -- each line is a fitting offer, at the total that its tariff means for the estimate
   pub lines-fit : (l : Line) → Among l ls → Shows-offer m b q l
   -- its place is on no other line
-  pub place-once : Apart (places ls)
+  pub place-once : No-repeats (places ls)
   -- the different totals are exactly as many as wanted, or fewer with no fitting offer left off
   pub totals-wanted : (different (totals ls) ≡ q .length) ⊎ ((different (totals ls) < q .length) × None-left-off m b q ls)
   -- no two lines carry the same supplier and name

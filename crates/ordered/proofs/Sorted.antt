@@ -10,7 +10,7 @@ use Rattle.std.proofs.shelf.Lists.{drop-more}
 use Rattle.std.proofs.shelf.Tests.{and-parts, and-from, or-left, or-right, cases-bool}
 use Rattle.ordered.specs.Inserting.{insert}
 use Rattle.ordered.specs.Ascending.{all, ascending}
-use Rattle.ordered.specs.Members.{Among, Apart}
+use Rattle.ordered.specs.Members.{Among, No-repeats}
 use Rattle.ordered.proofs.Members.{all-among, among-all, append-among, among-map}
 use Rattle.ordered.proofs.Order.{ascending-insert}
 
@@ -60,7 +60,7 @@ module _ {X : Type 0} (before : X → X → Bool) where
 
 module _ {X : Type 0} (before : X → X → Bool) (is : Strict before) where
   -- items that a value of theirs fixes have it once in a list in order
-  pub apart-by : {Y : Type 0} (f : X → Y) (g : Y → X) (xs : List X) → ascending before xs ≡ true → ((x : X) → Among x xs → x ≡ g (f x)) → Apart (map f xs)
+  pub apart-by : {Y : Type 0} (f : X → Y) (g : Y → X) (xs : List X) → ascending before xs ≡ true → ((x : X) → Among x xs → x ≡ g (f x)) → No-repeats (map f xs)
   apart-by f g [] a s = tt
   apart-by f g (x ∷ xs) a s =
       let h = and-parts (all (before x) xs) (ascending before xs) a in (

@@ -9,6 +9,6 @@ Among x [] = ⊥
 Among x (y ∷ ys) = (x ≡ y) ⊎ Among x ys
 
 -- no item is in the list twice
-abbrev pub Apart : {X : Type 0} → List X → Type 0
-Apart [] = Unit {0}
-Apart (x ∷ xs) = (Among x xs → ⊥) × Apart xs
+abbrev pub No-repeats : {X : Type 0} → List X → Type 0
+No-repeats [] = Unit {0}
+No-repeats (x ∷ xs) = (Among x xs → ⊥) × No-repeats xs

@@ -2,9 +2,10 @@
 ghost use Prim.Native.Nat.{_≤_};
 use crate::amounts::UnitPrice;
 
-/// The fewest and the most parts of a block.
+/// The fewest parts of a block.
 pub const LEAST_BLOCK: u32 = 1_000;
 
+/// The most parts of a block.
 pub const MOST_BLOCK: u32 = 1_000_000_000;
 
 /// A block of parts, and the price of a block: a unit price, multiplied by 1,000 to be a total.

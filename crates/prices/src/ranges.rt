@@ -23,7 +23,8 @@ impl FixedSum {
 
     /// The sum in hundredths.
     pub fn hundredths(&self) -> u32
-        ensures { λ r. ⌜ r ≡ now (self .entry) .hundredths ⌝ }
+        ensures is { λ r. ⌜ r ≡ now (self .entry) .hundredths ⌝ }
+        ensures bound { λ r. ⌜ r ≤ 1000000 ⌝ }
     {
         self.hundredths
     }
@@ -50,7 +51,8 @@ impl UnitPrice {
 
     /// The price in ten-thousandths.
     pub fn price(&self) -> u32
-        ensures { λ r. ⌜ r ≡ now (self .entry) .price ⌝ }
+        ensures is { λ r. ⌜ r ≡ now (self .entry) .price ⌝ }
+        ensures bound { λ r. ⌜ r ≤ 1000000 ⌝ }
     {
         self.price
     }

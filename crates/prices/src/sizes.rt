@@ -22,7 +22,8 @@ impl Block {
 
     /// The parts of the block.
     pub fn parts(&self) -> u32
-        ensures { λ r. ⌜ r ≡ now (self .entry) .parts ⌝ }
+        ensures is { λ r. ⌜ r ≡ now (self .entry) .parts ⌝ }
+        ensures range { λ r. ⌜ Block-range r ⌝ }
     {
         self.parts
     }

@@ -8,7 +8,7 @@ use native.Mathlib.Omega.{arith}
 use lib.Dec.{eqb}
 use lib.ListN.{length}
 use Rattle.std.proofs.shelf.Tests.{cond-true, cond-false, cond-both, cases-bool, eqb-true, eqb-false, eq-eqb, or-cases, or-left, or-right, or-parts, both-ways}
-use Rattle.ordered.specs.Members.{Among, Apart}
+use Rattle.ordered.specs.Members.{Among, No-repeats}
 use Rattle.ordered.proofs.Members.{among-append, append-among}
 use Rattle.ranking.specs.Totals.{occurs, different}
 
@@ -105,6 +105,6 @@ different-length [] = omega arith
 different-length (u ∷ us) =
     let h = different-length us in cond-both (occurs u us) (different us) (suc (different us)) (λ n. n ≤ suc (length us)) (λ _. omega arith) (λ _. omega arith)
 
-pub apart-different : (us : List ℕ) → Apart us → different us ≡ length us
+pub apart-different : (us : List ℕ) → No-repeats us → different us ≡ length us
 apart-different [] a = refl
 apart-different (u ∷ us) a = different-new u us (a .0) ∙ ap suc (apart-different us (a .1))

@@ -9,7 +9,7 @@ use lib.ListN.{length, take, getD}
 use Rattle.std.proofs.shelf.Lists.{take-more}
 use Rattle.ordered.specs.Inserting.{insert}
 use Rattle.ordered.specs.Ascending.{ascending}
-use Rattle.ordered.specs.Members.{Among, Apart}
+use Rattle.ordered.specs.Members.{Among, No-repeats}
 use Rattle.ordered.proofs.Members.{among-insert, insert-among, among-map, map-among}
 use Rattle.ordered.proofs.Sorted.{ascending-put}
 use Rattle.ordered.proofs.Order.{length-insert, take-put}
@@ -78,7 +78,7 @@ module _ (os : List Offer) where
   pub gathered-from : (xs : List Queued) (l : Line) → Among l (gathered os xs) → (x : Queued) × Among x xs × (l ≡ line-at os (x .place))
   gathered-from xs l m = ⊎-elim (λ h. h) (λ n. absurd n) (on-from xs [] l m)
 
-  on-order : (xs : List Queued) (ls : List Line) → ascending earlier ls ≡ true → Apart (map (λ (x : Queued). x .place) xs)
+  on-order : (xs : List Queued) (ls : List Line) → ascending earlier ls ≡ true → No-repeats (map (λ (x : Queued). x .place) xs)
       → ((x : Queued) → Among x xs → Among (x .place) (places ls) → ⊥) → ascending earlier (gathered-on os xs ls) ≡ true
   on-order [] ls a apart ne = a
   on-order (x ∷ xs) ls a apart ne =
@@ -94,7 +94,7 @@ module _ (os : List Offer) where
       (among-insert earlier (h .0) new ls (h .1)))
 
   -- they are in order, where no place comes twice
-  pub gathered-order : (xs : List Queued) → Apart (map (λ (x : Queued). x .place) xs) → ascending earlier (gathered os xs) ≡ true
+  pub gathered-order : (xs : List Queued) → No-repeats (map (λ (x : Queued). x .place) xs) → ascending earlier (gathered os xs) ≡ true
   gathered-order xs apart = on-order xs [] refl apart (λ x m n. n)
 
   -- the totals gathered are those of the offers

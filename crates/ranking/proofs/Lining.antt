@@ -11,7 +11,7 @@ use Rattle.std.proofs.shelf.Lists.{getD-past, take-more, take-all}
 use Rattle.std.proofs.shelf.Tests.{cond-both, cond-true, cond-false, cases-lt, cases-eq, both-ways}
 use Rattle.ordered.specs.Inserting.{insert}
 use Rattle.ordered.specs.Ascending.{ascending}
-use Rattle.ordered.specs.Members.{Among, Apart}
+use Rattle.ordered.specs.Members.{Among, No-repeats}
 use Rattle.ordered.proofs.Members.{among-insert, insert-among, among-take}
 use Rattle.ordered.proofs.Sorted.{ascending-put, ascending-same, ascending-take, apart-by}
 use Rattle.ordered.proofs.Order.{length-insert, take-put}
@@ -71,7 +71,7 @@ queue-only os q is =
     (λ x m. let s = other .all-fit x m in subst (λ z. Among z q) (sym (s .1)) (is .none-missing (x .place) (s .0)))
 
 -- no place is in the queue twice
-pub queue-apart : (os : List Offer) (q : List Queued) → Lined-up os q → (n : ℕ) → Apart (map (λ (x : Queued). x .place) (take n q))
+pub queue-apart : (os : List Offer) (q : List Queued) → Lined-up os q → (n : ℕ) → No-repeats (map (λ (x : Queued). x .place) (take n q))
 queue-apart os q is n =
     apart-by sooner queue-order (λ x. x .place) (queued-at os) (take n q) (ascending-take sooner n q (is .in-order)) (λ x m. is .all-fit x (among-take x n q m) .1)
 

@@ -5,7 +5,7 @@ use mathlib.Core.Logic.{_⊎_}
 use mathlib.Core.List.{List}
 use Prim.Native.Nat.{ℕ, _<_}
 use Rattle.ordered.specs.Ascending.{ascending}
-use Rattle.ordered.specs.Members.{Among, Apart}
+use Rattle.ordered.specs.Members.{Among, No-repeats}
 use Rattle.stages.specs.declared.line.Line.{Line}
 use Rattle.stages.specs.Lines.{earlier}
 use Rattle.ranking.specs.Offers.{Offer, offer-at, Fitting}
@@ -23,7 +23,7 @@ pub record Cheapest (wanted : ℕ) (os : List Offer) (ls : List Line) : Type 0 w
   -- each line is a fitting place at its total
   pub lines-fit : (l : Line) → Among l ls → Fitting os (l .place) × (l .total ≡ offer-at os (l .place) .total)
   -- no place is on two lines
-  pub place-once : Apart (places ls)
+  pub place-once : No-repeats (places ls)
   -- as many different totals as wanted, or fewer and none left off
   pub totals-wanted : (different (totals ls) ≡ wanted) ⊎ ((different (totals ls) < wanted) × None-left-off os ls)
   -- by ascending total, then place

@@ -10,23 +10,23 @@ use lib.ListN.{length, getD}
 use lib.Dec.{eqb}
 use Rattle.std.proofs.shelf.Tests.{eqb-true, eqb-false, cond-both, true≢false, false≢true}
 use Rattle.usage.specs.Drawing.{used, draws, fallen, given-out, drawn}
-use Rattle.usage.specs.Laws.{total, Near-share, Fair-draw}
+use Rattle.usage.specs.Laws.{sum-of, Near-share, Fair-draw}
 use Rattle.usage.proofs.Floors.{floor-more, floor-near, floor-between, floor-whole, floor-none}
 use Rattle.usage.proofs.Steps.{fallen-le}
 
 -- the draws telescope
-draws-sum : (q s p : ℕ) (ms : List Bool) (us : List ℕ) → 0 < s → total (draws q s p ms us) + q * p / s ≡ q * (p + used ms us) / s
+draws-sum : (q s p : ℕ) (ms : List Bool) (us : List ℕ) → 0 < s → sum-of (draws q s p ms us) + q * p / s ≡ q * (p + used ms us) / s
 draws-sum q s p [] us pos = simp add-zero (omega arith)
 draws-sum q s p (m ∷ ms) [] pos = simp add-zero (omega arith)
 draws-sum q s p (true ∷ ms) (u ∷ us) pos =
-    let rest : total (draws q s (p + u) ms us) + q * (p + u) / s ≡ q * (p + u + used ms us) / s = draws-sum q s (p + u) ms us pos in
+    let rest : sum-of (draws q s (p + u) ms us) + q * (p + u) / s ≡ q * (p + u + used ms us) / s = draws-sum q s (p + u) ms us pos in
     let up : q * p / s ≤ q * (p + u) / s = floor-more q s p u pos in
     let same : q * (p + u + used ms us) / s ≡ q * (p + (u + used ms us)) / s = ap (λ n. q * n / s) (add-assoc p u (used ms us)) in
     omega arith
 draws-sum q s p (false ∷ ms) (u ∷ us) pos = let rest = draws-sum q s p ms us pos in omega arith
 
 fallen-sum : (q s p : ℕ) (ms : List Bool) (us : List ℕ) → 0 < s → q ≤ s
-    → total (fallen us (draws q s p ms us)) + total (draws q s p ms us) ≡ total us
+    → sum-of (fallen us (draws q s p ms us)) + sum-of (draws q s p ms us) ≡ sum-of us
 fallen-sum q s p [] [] pos le = refl
 fallen-sum q s p [] (u ∷ us) pos le = omega arith
 fallen-sum q s p (m ∷ ms) [] pos le = refl
@@ -80,15 +80,15 @@ fallen-at (u ∷ us) [] k = omega arith
 fallen-at (u ∷ us) (d ∷ ds) zero = refl
 fallen-at (u ∷ us) (d ∷ ds) (suc k) = fallen-at us ds k
 
-gives-all : (ms : List Bool) (units : ℕ) (us : List ℕ) → total (drawn ms units us) + given-out ms units us ≡ total us
+gives-all : (ms : List Bool) (units : ℕ) (us : List ℕ) → sum-of (drawn ms units us) + given-out ms units us ≡ sum-of us
 gives-all ms units us =
     let s = used ms us in
     let q = given-out ms units us in
-    by-drawn ms units us (λ xs. total xs + q ≡ total us)
+    by-drawn ms units us (λ xs. sum-of xs + q ≡ sum-of us)
     (λ e. omega arith)
     (λ pos.
     let a = fallen-sum q s 0 ms us pos (omega arith) in
-    let b : total (draws q s 0 ms us) + q * 0 / s ≡ q * (0 + s) / s = draws-sum q s 0 ms us pos in
+    let b : sum-of (draws q s 0 ms us) + q * 0 / s ≡ q * (0 + s) / s = draws-sum q s 0 ms us pos in
     let same : q * (0 + s) / s ≡ q * s / s = ap (λ n. q * n / s) (omega arith) in
     omega (arith, floor-whole q s pos, floor-none q s))
 

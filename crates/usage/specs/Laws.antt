@@ -7,9 +7,9 @@ use lib.ListN.{length, getD}
 use Rattle.usage.specs.Drawing.{used, given-out}
 
 -- the sum of a list
-abbrev pub total : List ℕ → ℕ
-total [] = 0
-total (x ∷ xs) = x + total xs
+abbrev pub sum-of : List ℕ → ℕ
+sum-of [] = 0
+sum-of (x ∷ xs) = x + sum-of xs
 
 -- a member's draw d and its exact share, q * u / s, differ by less than one part: both are multiplied by s here
 abbrev pub Near-share : ℕ → ℕ → ℕ → ℕ → Type 0
@@ -20,7 +20,7 @@ pub record Fair-draw (ms : List Bool) (units : ℕ) (us vs : List ℕ) : Type 0 
   -- the list keeps its length
   pub keeps : length vs ≡ length us
   -- the group gives out exactly the smaller of its parts and what its members use
-  pub gives-out : total vs + given-out ms units us ≡ total us
+  pub gives-out : sum-of vs + given-out ms units us ≡ sum-of us
   -- no use rises
   pub lowers : (k : ℕ) → getD vs k 0 ≤ getD us k 0
   -- seats outside the group stay

@@ -80,7 +80,8 @@ impl Group {
 
     /// The whole units that the seats share.
     pub fn units(&self) -> u32
-        ensures { λ r. ⌜ r ≡ now (self .entry) .units ⌝ }
+        ensures is { λ r. ⌜ r ≡ now (self .entry) .units ⌝ }
+        ensures bound { λ r. ⌜ r ≤ 1600000 ⌝ }
     {
         self.units
     }

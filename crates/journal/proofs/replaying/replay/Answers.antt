@@ -8,8 +8,10 @@ use Rattle.std.specs.Of.IntoIter.{into-iter-items}
 use Rattle.tariff.specs.Totals.{Meaning, meaning}
 use Rattle.catalogue.specs.Books.{all-empty}
 use Rattle.catalogue.specs.Held.{held}
+use Rattle.catalogue.specs.Refusals.{row-of}
+use Rattle.catalogue.proofs.Holding.{held-sound}
 use Rattle.catalogue.proofs.OneAnswer.{book-laws}
-use Rattle.journal.specs.Calls.{call-data}
+use Rattle.journal.specs.Calls.{call-data, answer-data}
 use Rattle.journal.specs.Runs.{Run}
 use Rattle.journal.proofs.Loops.{So-far, none-made, none-opened, one-more, all-made}
 use Rattle.journal.proofs.RunLaws.{run-laws}
@@ -32,6 +34,7 @@ returns-in-Err g c =
       replays = (
         omega arith,
         o .0,
+        ap row-of (o .1),
         ap (λ s. record { slots = s; tariffs = c .in-Err .back .tariffs; calls = v .calls; answers = v .answers }) (o .2)
             ∙ ap (λ t. record { slots = v .slots; tariffs = t; calls = v .calls; answers = v .answers }) (o .3),
       );
@@ -74,10 +77,13 @@ returns g c =
         omega arith,
         o .0,
         record {
-          answers = so .answers;
-          run = subst (λ k. Run (mean g) k (map call-data (vec-items (c .args .given .calls))) (so .answers) (held (c .loop-call .catalogue))) long
-              (subst (λ cs. Run (mean g) (length b) (map call-data cs) (so .answers) (held (c .loop-call .catalogue))) all (so .run));
+          said = so .said;
+          run = subst (λ k. Run (mean g) k (map call-data (vec-items (c .args .given .calls))) (map answer-data (so .said)) (held (c .loop-call .catalogue))) long
+              (subst (λ cs. Run (mean g) (length b) (map call-data cs) (map answer-data (so .said)) (held (c .loop-call .catalogue))) all (so .run));
           answers-are = so .answers-are;
+          room-kept = so .room-kept;
+          apart = c .loop-call .catalogue .apart;
+          sound = held-sound (c .loop-call .catalogue);
         },
       );
       laws = run-laws (mean g) laws;
