@@ -1,4 +1,4 @@
-//! Tests of the stages of a listing, and of the list.
+//! Tests of the list.
 #[cfg(test)]
 mod fits;
 #[cfg(test)]
@@ -7,5 +7,3 @@ mod lists;
 mod making;
 #[cfg(test)]
 mod refusals;
-#[cfg(test)]
-mod stage_calls;

@@ -1,16 +1,16 @@
 //! What a list shows, and how many offers it costs.
-use crate::making::check_lines;
 use crate::making::enquiry;
-use crate::making::line;
 use crate::making::offer;
 use crate::making::plan;
-use crate::making::stale;
 use catalogue::Catalogue;
 use catalogue_tests::making::opened;
 use kinds::Plan;
 use kinds::PlanTariff;
 use listing::list;
 use listing::refusal::RefusalDebug;
+use stage_tests::making::check_lines;
+use stage_tests::making::line;
+use stage_tests::making::stale;
 use stages::Line;
 use std::alloc::Global;
 use std::test::*;

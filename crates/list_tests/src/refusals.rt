@@ -1,8 +1,6 @@
 //! Why a list call is declined, topmost cause first.
-use crate::making::check_lines;
 use crate::making::enquiry;
 use crate::making::plan;
-use crate::making::stale;
 use catalogue::Catalogue;
 use catalogue_tests::making::check_told;
 use catalogue_tests::making::opened;
@@ -15,6 +13,8 @@ use listing::list;
 use refusal::Row;
 use refusal::value::ValueDebug;
 use refusal::value::ValuePartialEq;
+use stage_tests::making::check_lines;
+use stage_tests::making::stale;
 use stages::Line;
 use std::test::*;
 use usage::refusal::RefusalDebug;
