@@ -1,4 +1,6 @@
 //! The catalogue of offers: opening it, and the calls that enter, publish, amend and delete.
+#![tactic(auto)]
+
 pub mod amending;
 pub mod deleting;
 pub mod entering;

@@ -1,4 +1,6 @@
 //! Tests of heads and of the catalogue; the heads and catalogues that tests are made of.
+#![tactic(auto)]
+
 #[cfg(test)]
 mod calls;
 #[cfg(test)]

@@ -1,4 +1,6 @@
 //! The comparator: one offer's bill, and a small shop's catalogues from opening to the lists for two gates.
+#![tactic(auto)]
+
 mod bill;
 mod money;
 mod offers;

@@ -1,4 +1,6 @@
 //! A cursor over the bytes of a sheet, and reading of numbers and texts.
+#![tactic(auto)]
+
 pub mod cursor;
 pub mod fault;
 pub mod fields;

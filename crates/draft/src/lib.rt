@@ -1,4 +1,6 @@
 //! Drafts of plans and options: prices and groups at the nodes of a service tree.
+#![tactic(auto)]
+
 pub mod draft;
 pub mod grouping;
 pub mod laws;

@@ -1,4 +1,6 @@
 //! A plan drafted entry by entry, and plan sheets read from files.
+#![tactic(auto)]
+
 mod drafting;
 mod refused;
 mod sheets;

@@ -1,4 +1,6 @@
 //! The worked examples, proved of the definitions that the contracts cite, and the offer of the first of them.
+#![tactic(auto)]
+
 pub mod offer;
 pub mod table;
 

@@ -1,4 +1,6 @@
 //! Heads of offers: their values, the rules for them, and how two heads compare.
+#![tactic(auto)]
+
 pub mod head;
 pub mod heading;
 pub mod kinds;

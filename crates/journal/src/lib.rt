@@ -1,4 +1,6 @@
 //! Calls on a catalogue, one after another, and the promise over every run of them.
+#![tactic(auto)]
+
 pub mod call;
 pub mod making;
 pub mod numbers;

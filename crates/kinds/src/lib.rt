@@ -1,4 +1,6 @@
 //! The kinds of tariff: plan, block tariff, add-on over any tariff, promotion over any tariff; and the shop's piles.
+#![tactic(auto)]
+
 pub mod addon;
 pub mod block_tariff;
 pub mod layers;

@@ -1,4 +1,6 @@
 //! Tests of the list.
+#![tactic(auto)]
+
 #[cfg(test)]
 mod fits;
 #[cfg(test)]

@@ -1,4 +1,6 @@
 //! The list: the cheapest fitting offers of a catalogue, for one enquiry.
+#![tactic(auto)]
+
 pub mod enquiry;
 pub mod fitting;
 pub mod listing;

@@ -1,4 +1,6 @@
 //! Items kept in order at the front of a memory: one insertion for every kind of item.
+#![tactic(auto)]
+
 ghost use Rattle.std.specs.Prelude.{◌≡◌, ◌+◌, ◌<◌, ◌≤◌, Bool, ◌++◌, length, take, drop};
 ghost use Rattle.std.specs.List.{insert};
 ghost use Rattle.ordered.specs.Inserting.{spot, Puts};

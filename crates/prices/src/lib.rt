@@ -1,4 +1,6 @@
 //! Amounts within their ranges, and the tables of prices and blocks that tariffs hold.
+#![tactic(auto)]
+
 pub mod amounts;
 pub mod block;
 pub mod blocks;

@@ -1,4 +1,6 @@
 //! Which offers a list shows, and how many are costed, over a plain list of offers.
+#![tactic(auto)]
+
 pub mod ending;
 pub mod queued;
 pub mod theorems;

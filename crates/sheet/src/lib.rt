@@ -1,4 +1,6 @@
 //! Plan sheets: their layout in bytes, read section by section or whole.
+#![tactic(auto)]
+
 pub mod convert;
 pub mod encodings;
 pub mod entries;

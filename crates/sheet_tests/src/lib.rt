@@ -1,4 +1,6 @@
 //! Tests of plan sheets: one good sheet, and one for each fault, at the first and the last byte where it can come.
+#![tactic(auto)]
+
 #[cfg(test)]
 mod entries;
 #[cfg(test)]

@@ -1,4 +1,6 @@
 //! A listing in two stages: lines are gathered, then cut, and only then read.
+#![tactic(auto)]
+
 pub mod cut;
 pub mod cutting;
 pub mod gathering;

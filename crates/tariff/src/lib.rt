@@ -1,4 +1,6 @@
 //! What every kind of tariff means, and an offer's total.
+#![tactic(auto)]
+
 pub mod offer;
 pub mod tariff;
 

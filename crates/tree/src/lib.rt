@@ -1,4 +1,6 @@
 //! The service tree: nodes, branches, end services and their seats.
+#![tactic(auto)]
+
 pub mod branches;
 pub mod numbers;
 pub mod opening;

@@ -1,4 +1,6 @@
 //! Lists of uses, groups of seats, and drawing: what the units of groups leave of the uses.
+#![tactic(auto)]
+
 pub mod clearing;
 pub mod drawing;
 pub mod group;
