@@ -21,7 +21,7 @@ pub struct Full;
 
 /// Puts an item among the first `held` of the memory, before the first of them that it stands before.
 pub fn put<T: Ranked + Copy>(memory: &mut [T], held: usize, item: T) -> Result<(), Full>
-    ensures { Puts before item held memory.old result memory.new }
+    ensures { Puts T.before item held memory.old result memory.new }
 {
     if held >= memory.len() {
         return Err(Full);
@@ -33,7 +33,7 @@ pub fn put<T: Ranked + Copy>(memory: &mut [T], held: usize, item: T) -> Result<(
 
 // Where an item goes among these.
 fn spot_of<T: Ranked>(items: &[T], item: &T) -> usize
-    ensures at { result ≡ spot before item.now items.now }
+    ensures at { result ≡ spot T.before item.now items.now }
     ensures within { result ≤ length items.now }
 {
     for (i, other) in items.iter().enumerate() {

@@ -10,7 +10,7 @@ returns g c =
     let h = c.args.held in
     let x = c.args.item in
     -- `&memory[0..held]` is `take (held - 0)` as it is written, and `search` joins it with `take held`
-    let at : c.spot-of-at.result ≡ spot g.T.Ranked.before x (take h xs) = search rules in (
+    let at : c.spot_of-at.result ≡ spot g.T.Ranked.before x (take h xs) = search rules in (
       search rules,
       c.shift.ensures
           ∙ ap (λ n. insert (take h xs) n x ++ drop (h + 1) xs) at

@@ -6,4 +6,4 @@ use Rattle.tree.proofs.opening.filled_up.Goals as goal
 pub returns : goal.returns
 returns c =
     let g = c.args.given.now in
-    rw (c.copy-from-slice.ensures.after, sub-zero) (take_at g _ (length g) refl)
+    rw (c.copy_from_slice.ensures.after, sub-zero) (take_at g _ (length g) refl)

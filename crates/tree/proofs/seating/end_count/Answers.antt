@@ -5,9 +5,9 @@ use Rattle.tree.proofs.seating.end_count.Goals.{then-not-has-child, else-not-has
 
 pub loop-n-preserved : goal.loop-n-preserved
 loop-n-preserved c =
-    let r = c.has-child.ensures in
+    let r = c.has_child.ensures in
     let i = c.loop-n.invariant in
-    elim c.if-not-has-child.branch [
-      | then-not-has-child w ↦ let e = ends_more c.loop-n.n c.args.parents.now (sym r ∙ w.if-not-has-child.true) in (omega (arith, w.count-is), omega (arith, w.count-is))
-      | else-not-has-child w ↦ let e = ends_same c.loop-n.n c.args.parents.now (sym r ∙ w.if-not-has-child.false) in (omega (arith, w.count-is), omega (arith, w.count-is))
+    elim c.if-not-has_child.branch [
+      | then-not-has-child w ↦ let e = ends_more c.loop-n.n c.args.parents.now (sym r ∙ w.if-not-has_child.true) in (omega (arith, w.count-is), omega (arith, w.count-is))
+      | else-not-has-child w ↦ let e = ends_same c.loop-n.n c.args.parents.now (sym r ∙ w.if-not-has_child.false) in (omega (arith, w.count-is), omega (arith, w.count-is))
     ]

@@ -3,8 +3,8 @@ use Rattle.heads.proofs.TextLaws.{name_text}
 use Rattle.heads.proofs.HeadLaws.{network_known, contract_known}
 use Rattle.heads.proofs.head.Head.of.Goals as goal
 
-pub invariant-of-result : goal.invariant-of-result
-invariant-of-result c =
+pub invariant_of-result : goal.invariant_of-result
+invariant_of-result c =
     let suits = c.suits.ensures.0 c.if-not-suits.false in
     (omega arith, (omega arith, (omega arith, (omega arith, (omega arith, ((λ e. (suits e).0), ((λ e. (suits e).1), tt)))))))
 

@@ -5,5 +5,5 @@ pub returns : goal.returns
 returns c =
     let one = c.text.ensures.is in
     let two = c.text-2.ensures.is in
-    let d = c.are-same.ensures in
+    let d = c.are_same.ensures in
     ((λ e. sym one ∙ d.0 e ∙ two), (λ e. d.1 (one ∙ e ∙ sym two)))

@@ -14,7 +14,7 @@ returns-then-passed-seat c =
     let n = c.loop-n.n in
     let s = c.args.seat in
     let z = length_parents t in
-    let f : among n ps ≡ false = rw c.parents.ensures at (sym c.has-child.ensures ∙ c.if-not-has-child.true) in
+    let f : among n ps ≡ false = rw c.parents.ensures at (sym c.has_child.ensures ∙ c.if-not-has_child.true) in
     let y = seat_here ps s n f (sym c.loop-n.invariant.0 ∙ c.if-passed-seat.true) in
     let e : end_at ps s ≡ Some n = lowest_here (has_seat ps s) n c.loop-n.invariant.2 y (length ps) (omega arith) in
     record { is = sym e; means = subst (SeatedBy ps s) e (seated_by ps s) }
@@ -26,15 +26,15 @@ loop-n-preserved c =
     let n = c.loop-n.n in
     let s = c.args.seat in
     let i = c.loop-n.invariant in
-    let r : c.has-child.result ≡ among n ps = rw c.parents.ensures at c.has-child.ensures in
-    elim c.if-not-has-child.branch [
+    let r : c.has_child.result ≡ among n ps = rw c.parents.ensures at c.has_child.ensures in
+    elim c.if-not-has_child.branch [
       | then-not-has-child+else-passed-seat w ↦
-          let f : among n ps ≡ false = sym r ∙ w.if-not-has-child.true in
+          let f : among n ps ≡ false = sym r ∙ w.if-not-has_child.true in
           let e = ends_more n ps f in
           let q = w.if-passed-seat.false in
           (omega (arith, w.passed-is), omega (arith, w.passed-is), lowest_more (has_seat ps s) n i.2 (seat_other ps s n (λ k. q (i.0 ∙ k))))
       | else-not-has-child w ↦
-          let f : among n ps ≡ true = sym r ∙ w.if-not-has-child.false in
+          let f : among n ps ≡ true = sym r ∙ w.if-not-has_child.false in
           let e = ends_same n ps f in
           (omega (arith, w.passed-is), omega (arith, w.passed-is), lowest_more (has_seat ps s) n i.2 (seat_parent ps s n f))
     ]

@@ -13,7 +13,7 @@ returns-then-node-count c =
     let ps = parents_of t in
     let n = c.args.node in
     let z = length_parents t in
-    let q : c.has-child.result ≡ among n ps = rw c.parents.ensures at c.has-child.ensures in
+    let q : c.has_child.result ≡ among n ps = rw c.parents.ensures at c.has_child.ensures in
     let l : ltb n (length ps) ≡ true = lt-ltb n (length ps) (omega arith) in
-    let e : not c.has-child.result ≡ is_end ps n = rw (q, l) refl in
-    record { is = e; means = Decides-at (not c.has-child.result) (is_end ps n) e (decides_end ps n) }
+    let e : not c.has_child.result ≡ is_end ps n = rw (q, l) refl in
+    record { is = e; means = Decides-at (not c.has_child.result) (is_end ps n) e (decides_end ps n) }

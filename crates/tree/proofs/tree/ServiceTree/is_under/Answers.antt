@@ -25,7 +25,7 @@ returns c =
     let n = c.args.node in
     let a = c.args.above in
     let z = length_parents t in
-    let d : Decides c.climbs-to.result (Leads ps n a) = rw c.parents.ensures at c.climbs-to.ensures in
-    let m : Decides c.climbs-to.result (Under ps n a) =
-    Decides-like c.climbs-to.result (λ x. record { node = omega arith; above = omega arith; leads = x }) (λ u. u.leads) d in
-    record { is = same_from_decides c.climbs-to.result (is_under ps n a) m (decides_under ps (keeps_rule t) n a); means = m }
+    let d : Decides c.climbs_to.result (Leads ps n a) = rw c.parents.ensures at c.climbs_to.ensures in
+    let m : Decides c.climbs_to.result (Under ps n a) =
+    Decides-like c.climbs_to.result (λ x. record { node = omega arith; above = omega arith; leads = x }) (λ u. u.leads) d in
+    record { is = same_from_decides c.climbs_to.result (is_under ps n a) m (decides_under ps (keeps_rule t) n a); means = m }

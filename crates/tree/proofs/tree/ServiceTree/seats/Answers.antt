@@ -11,6 +11,6 @@ returns c =
     let ps = parents_of t in
     let z = length_parents t in
     let s = (keeps_rule t).seats in
-    let q : c.end-count.result ≡ ends_below t.count ps = rw c.parents.ensures at c.end-count.ensures.is in
-    let e : c.end-count.result ≡ ends_below (length ps) ps = q ∙ sym (ap (λ (n : ℕ). ends_below n ps) z) in
+    let q : c.end_count.result ≡ ends_below t.count ps = rw c.parents.ensures at c.end_count.ensures.is in
+    let e : c.end_count.result ≡ ends_below (length ps) ps = q ∙ sym (ap (λ (n : ℕ). ends_below n ps) z) in
     record { is = e; few = omega arith; seating = rw e (seating ps) }

@@ -11,24 +11,24 @@ by-either : (ps : List ℕ) (a b : ℕ) (r : Bool) → r ≡ (is_under ps a b ||
 unfolding share_branch
 by-either ps a b r e = e
 
-pub returns-then-is-under : goal.returns-then-is-under
-returns-then-is-under c =
+pub returns-then-is_under : goal.returns-then-is_under
+returns-then-is_under c =
     let t = c.args.self.now in
     let ps = parents_of t in
     let a = c.args.a in
     let b = c.args.b in
     let r = c.is_under.result in
     let e : r ≡ share_branch ps a b =
-    by-either ps a b r (c.if-is-under.true ∙ sym (or_left (is_under ps a b) (is_under ps b a) (sym c.is_under.ensures.is ∙ c.if-is-under.true))) in
+    by-either ps a b r (c.if-is_under.true ∙ sym (or_left (is_under ps a b) (is_under ps b a) (sym c.is_under.ensures.is ∙ c.if-is_under.true))) in
     record { is = e; means = Decides-at r (share_branch ps a b) e (decides_share ps (keeps_rule t) a b) }
 
-pub returns-else-is-under : goal.returns-else-is-under
-returns-else-is-under c =
+pub returns-else-is_under : goal.returns-else-is_under
+returns-else-is_under c =
     let t = c.args.self.now in
     let ps = parents_of t in
     let a = c.args.a in
     let b = c.args.b in
-    let r = c.is-under-else-is-under.result in
-    let f : is_under ps a b ≡ false = sym c.is_under.ensures.is ∙ c.if-is-under.false in
-    let e : r ≡ share_branch ps a b = by-either ps a b r (rw f c.is-under-else-is-under.ensures.is) in
+    let r = c.is_under-else-is_under.result in
+    let f : is_under ps a b ≡ false = sym c.is_under.ensures.is ∙ c.if-is_under.false in
+    let e : r ≡ share_branch ps a b = by-either ps a b r (rw f c.is_under-else-is_under.ensures.is) in
     record { is = e; means = Decides-at r (share_branch ps a b) e (decides_share ps (keeps_rule t) a b) }

@@ -19,13 +19,13 @@ record Turn (q s p u before : ℕ) : Type 0 where
   up : before ≤ q * (p + u) / s
   near : q * (p + u) / s ≤ before + u
 
-turn : (c : goal.Then-self-i) → Turn c.min-q.result c.members-use-s.result c.loop-i.p (get_or c.args.uses.parts c.loop-i.i 0) c.loop-i.before
+turn : (c : goal.Then-self-i) → Turn c.min-q.result c.members_use-s.result c.loop-i.p (get_or c.args.uses.parts c.loop-i.i 0) c.loop-i.before
 turn c =
     let ms = c.args.self.now.members.flags in
     let us = c.args.uses.parts in
     let i = c.loop-i.i in
     let q = c.min-q.result in
-    let s = c.members-use-s.result in
+    let s = c.members_use-s.result in
     let p = c.loop-i.p in
     let u = get_or us i 0 in
     let in-ms : i < length ms = omega arith in
@@ -35,7 +35,7 @@ turn c =
     let step = used_in ms us i in-ms in-us c.if-self-i.true in
     record {
       pos = pos;
-      most = c.members-use-s.ensures.bound;
+      most = c.members_use-s.ensures.bound;
       le = le;
       inside = omega arith;
       small = c.args.uses.bounded i;
@@ -44,19 +44,19 @@ turn c =
       near = omega (arith, floor_near q s p u pos le);
     }
 
-pub overflow-mul-floor : goal.overflow-mul-floor
-overflow-mul-floor c =
+pub overflow_mul-floor : goal.overflow_mul-floor
+overflow_mul-floor c =
     let t = turn c in
     omega (arith, mul-le c.min-q.result (c.loop-i.p + get_or c.args.uses.parts c.loop-i.i 0) 1600000000 1600000000 (omega arith) (omega arith))
 
-pub overflow-sub-parts : goal.overflow-sub-parts
-overflow-sub-parts c = (turn c).up
+pub overflow_sub-parts : goal.overflow_sub-parts
+overflow_sub-parts c = (turn c).up
 
-pub overflow-cast-parts : goal.overflow-cast-parts
-overflow-cast-parts c = let t = turn c in omega arith
+pub overflow_cast-parts : goal.overflow_cast-parts
+overflow_cast-parts c = let t = turn c in omega arith
 
-pub overflow-sub-parts-then-self-i : goal.overflow-sub-parts-then-self-i
-overflow-sub-parts-then-self-i c = let t = turn c in omega arith
+pub overflow_sub-parts-then-self-i : goal.overflow_sub-parts-then-self-i
+overflow_sub-parts-then-self-i c = let t = turn c in omega arith
 
 pub loop-i-preserved : goal.loop-i-preserved
 loop-i-preserved c =
@@ -71,13 +71,13 @@ loop-i-preserved c =
       | else-self-i w ↦ drawing_out ms us _ _ i _ _ _ in-ms in-us in_parts c.loop-i.invariant _ _ _ w.if-self-i.false w.parts-is w.p-is w.before-is
     ]
 
-pub invariant-of-result : goal.invariant-of-result
-invariant-of-result c =
+pub invariant_of-result : goal.invariant_of-result
+invariant_of-result c =
     let ms = c.args.self.now.members.flags in
     let units = c.args.self.now.units in
     let us = c.args.uses.parts in
     let e : c.loop-i.parts ≡ drawn ms units us =
-    drawing_all ms us units _ _ c.loop-i.i c.loop-i.parts _ _ c.members-use-s.ensures.is c.min-q.ensures (omega arith) (omega arith) (omega arith) c.loop-i.invariant in
+    drawing_all ms us units _ _ c.loop-i.i c.loop-i.parts _ _ c.members_use-s.ensures.is c.min-q.ensures (omega arith) (omega arith) (omega arith) c.loop-i.invariant in
     (c.loop-i.invariant.0, ((λ k. rw e (omega (arith, (drawn_fair ms units us).lowers k, c.args.uses.bounded k))), tt))
 
 pub returns : goal.returns
@@ -86,5 +86,5 @@ returns c =
     let units = c.args.self.now.units in
     let us = c.args.uses.parts in
     let e : c.loop-i.parts ≡ drawn ms units us =
-    drawing_all ms us units _ _ c.loop-i.i c.loop-i.parts _ _ c.members-use-s.ensures.is c.min-q.ensures (omega arith) (omega arith) (omega arith) c.loop-i.invariant in
+    drawing_all ms us units _ _ c.loop-i.i c.loop-i.parts _ _ c.members_use-s.ensures.is c.min-q.ensures (omega arith) (omega arith) (omega arith) c.loop-i.invariant in
     record { is = e; fair = subst (FairDraw ms units us) (sym e) (drawn_fair ms units us) }

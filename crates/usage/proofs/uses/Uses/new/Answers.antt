@@ -11,17 +11,17 @@ returns-then-numbers-ne-SEATS c = (
   λ u. elim c.then-numbers-ne-SEATS.branch [
     | then-numbers-ne-SEATS-via-then-numbers-ne-SEATS w ↦ w.if-numbers-ne-SEATS.true u.seats
     | then-numbers-ne-SEATS-via-else-numbers-ne-SEATS+then-not-are-small w ↦
-        both_ways (small c.args.numbers.now) (sym w.are-small.ensures ∙ w.if-not-are-small.true) (all_small c.args.numbers.now u.bounded)
+        both_ways (small c.args.numbers.now) (sym w.are_small.ensures ∙ w.if-not-are_small.true) (all_small c.args.numbers.now u.bounded)
   ],
 )
 
-pub invariant-of-result : goal.invariant-of-result
-invariant-of-result c =
-    let e : c.copy-from-slice.new.self ≡ c.args.numbers.now = c.copy-from-slice.ensures.after in
-    let s : small c.args.numbers.now ≡ true = sym c.if-not-are-small.ensures in
+pub invariant_of-result : goal.invariant_of-result
+invariant_of-result c =
+    let e : c.copy_from_slice.new.self ≡ c.args.numbers.now = c.copy_from_slice.ensures.after in
+    let s : small c.args.numbers.now ≡ true = sym c.if-not-are_small.ensures in
     (ap length e ∙ omega arith, (λ k. subst (λ us. get_or us k 0 ≤ 100000000) (sym e) (small_all c.args.numbers.now s k), tt))
 
 pub returns : goal.returns
 returns c =
-    let s : small c.args.numbers.now ≡ true = sym c.are-small.ensures ∙ c.if-not-are-small.false in
-    (record { seats = omega arith; bounded = small_all c.args.numbers.now s }, c.copy-from-slice.ensures.after)
+    let s : small c.args.numbers.now ≡ true = sym c.are_small.ensures ∙ c.if-not-are_small.false in
+    (record { seats = omega arith; bounded = small_all c.args.numbers.now s }, c.copy_from_slice.ensures.after)

@@ -12,8 +12,8 @@ loop-i-preserved c =
       | else-seats-i w ↦ let e = ap (λ (f : Bool). clear_at f i c.loop-i.parts) w.if-seats-i.false in cc
     ]
 
-pub invariant-of-result : goal.invariant-of-result
-invariant-of-result c =
+pub invariant_of-result : goal.invariant_of-result
+invariant_of-result c =
     let fs = c.args.seats.now.flags in
     let us = c.args.self.parts in
     let e = c.loop-i.invariant ∙ cleared_all fs us c.loop-i.i (omega arith) in (
