@@ -2,7 +2,7 @@
 use Rattle.std.specs.Prelude.{Some, None, Ok, Err, Option, Result}
 use Rattle.refusal.specs.Rows.{RowData}
 use Rattle.catalogue.specs.Refusals.{row_of}
-use Rattle.catalogue.specs.declared.refusal.Refusal.{Refusal}
+use Rattle.catalogue.specs.declared.refusing.Refusal.{Refusal}
 
 abbrev pub told : {X : Type 0} → Result X Refusal → Option RowData
 told (Ok x) = None

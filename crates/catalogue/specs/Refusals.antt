@@ -2,8 +2,8 @@
 use Rattle.std.specs.Prelude.{ℕ, [], ◌∷◌}
 use Rattle.refusal.specs.Rows.{RowData, bare}
 use Rattle.refusal.specs.declared.value.Value.TheVariants.{Place}
-use Rattle.catalogue.specs.declared.refusal.Refusal.{Refusal}
-use Rattle.catalogue.specs.declared.refusal.Refusal.TheVariants.{NotOpened, NoSuchPlace, BadHead, EmptyPlace, LastBeforeFirst, AlreadyPublished, StillPublished, SharesDay}
+use Rattle.catalogue.specs.declared.refusing.Refusal.{Refusal}
+use Rattle.catalogue.specs.declared.refusing.Refusal.TheVariants.{NotOpened, NoSuchPlace, BadHead, EmptyPlace, LastBeforeFirst, AlreadyPublished, StillPublished, SharesDay}
 
 -- the row of a published namesake at the place k that would share a day
 abbrev pub shares_day : ℕ → RowData

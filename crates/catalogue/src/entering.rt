@@ -6,7 +6,7 @@ ghost use Rattle.catalogue.specs.Answers.{told_back};
 ghost use Rattle.catalogue.specs.Held.{held, WritesEntry};
 
 use crate::memory::Catalogue;
-use crate::refusal::Refusal;
+use crate::refusing::Refusal;
 use crate::slot::{Slot, State};
 use heads::{Head, RawHead};
 

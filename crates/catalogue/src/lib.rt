@@ -9,11 +9,11 @@ pub mod numbers;
 pub mod offers;
 pub mod opening;
 pub mod publishing;
-pub mod refusal;
+pub mod refusing;
 pub mod rivals;
 pub mod slot;
 
 pub use memory::Catalogue;
 pub use opening::Unopened;
-pub use refusal::Refusal;
+pub use refusing::Refusal;
 pub use slot::{Slot, State};

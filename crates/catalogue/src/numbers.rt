@@ -1,7 +1,7 @@
 //! The number of each refusal, and the place that goes with it.
 ghost use Rattle.catalogue.specs.Refusals.{row_of};
 
-use crate::refusal::Refusal;
+use crate::refusing::Refusal;
 use refusal::{Row, Value};
 
 impl Row for Refusal {

@@ -1,13 +1,13 @@
 //! Opening a catalogue, and how many places it has.
 ghost use Rattle.std.specs.Prelude.{◌≡◌, map, length, vec_len, MatchResult};
-ghost use Rattle.catalogue.specs.declared.refusal.Refusal.TheVariants.{NotOpened};
+ghost use Rattle.catalogue.specs.declared.refusing.Refusal.TheVariants.{NotOpened};
 ghost use Rattle.catalogue.specs.Books.{all_empty, Openable, Apart, SoundBook};
 ghost use Rattle.catalogue.specs.Slots.{slot_data, emptied};
 ghost use Rattle.catalogue.specs.Held.{memory, held};
 ghost use Rattle.catalogue.specs.Laws.{BookLaws};
 
 use crate::memory::{Catalogue, MOST_PLACES};
-use crate::refusal::Refusal;
+use crate::refusing::Refusal;
 use crate::slot::{Slot, State};
 
 /// Memories that no catalogue was opened over, as they were.

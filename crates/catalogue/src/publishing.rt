@@ -7,7 +7,7 @@ ghost use Rattle.catalogue.specs.Slots.{restated};
 ghost use Rattle.catalogue.specs.Held.{held, WritesSlot};
 
 use crate::memory::Catalogue;
-use crate::refusal::Refusal;
+use crate::refusing::Refusal;
 use crate::rivals::clashing;
 use crate::slot::{Slot, State};
 

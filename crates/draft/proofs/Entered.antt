@@ -3,7 +3,7 @@ use Rattle.std.proofs.Common.{◌≡◌, ℕ, zero, suc, ◌<◌, ◌≤◌, Boo
 use Rattle.std.proofs.lemmas.Bool.{lt-leb, le-ltb}
 use Rattle.refusal.specs.Lowest.{lowest}
 use Rattle.usage.specs.Groups.{GroupData, group_data, group_cause, with_group, group_at}
-use Rattle.draft.specs.declared.refusal.Refusal.{Refusal}
+use Rattle.draft.specs.declared.refusing.Refusal.{Refusal}
 use Rattle.draft.specs.Drafts.{DraftData, flagged, members_of}
 use Rattle.draft.specs.Rules.{priced_on_branch, enter_price, strays, shares, enter_group}
 use Rattle.draft.specs.Saving.{member_at}

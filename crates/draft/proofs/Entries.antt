@@ -9,7 +9,7 @@ use Rattle.ordered.proofs.Members.{among_insert, insert_among}
 use Rattle.usage.specs.Groups.{GroupData, group_data, drawn_first}
 use Rattle.tree.specs.Trees.{TreeRule}
 use Rattle.tree.proofs.Sharing.{on_branch}
-use Rattle.draft.specs.declared.refusal.Refusal.{Refusal}
+use Rattle.draft.specs.declared.refusing.Refusal.{Refusal}
 use Rattle.draft.specs.Apart.{PriceAt}
 use Rattle.draft.specs.Drafts.{DraftData, empty_draft, with_price, members_of, with_group_at, Member}
 use Rattle.draft.specs.Rules.{priced_on_branch, enter_price, enter_group}

@@ -7,10 +7,10 @@ use Rattle.refusal.specs.Lowest.{lowest}
 use Rattle.refusal.proofs.Lowest.{Answers, lowest_tells, some_tells, some_here}
 use Rattle.ordered.specs.Members.{Among}
 use Rattle.usage.specs.Groups.{GroupData, no_member, has_order}
-use Rattle.usage.specs.declared.refusal.Refusal.TheVariants.{EmptyGroup, OutOfRange, NinthGroup, OrderUsed}
+use Rattle.usage.specs.declared.refusing.Refusal.TheVariants.{EmptyGroup, OutOfRange, NinthGroup, OrderUsed}
 use Rattle.tree.specs.Trees.{TreeRule, among, share_branch}
 use Rattle.tree.proofs.Sharing.{decides_share}
-use Rattle.draft.specs.declared.refusal.Refusal.TheVariants.{NoSuchNode, Tariff, BranchShared}
+use Rattle.draft.specs.declared.refusing.Refusal.TheVariants.{NoSuchNode, Tariff, BranchShared}
 use Rattle.draft.specs.Drafts.{DraftData, flagged, members_of, with_group_at}
 use Rattle.draft.specs.Rules.{unless, strays, meets, shares, enter_group}
 use Rattle.draft.specs.Rows.{Shares, GroupRow, no_such, no_nodes, many_units, ninth, order_used, branch_shared, GroupAnswer}

@@ -5,10 +5,10 @@ use Rattle.refusal.specs.Rows.{RowData}
 use Rattle.refusal.specs.Table.{Higher}
 use Rattle.refusal.specs.Lowest.{lowest}
 use Rattle.refusal.proofs.Lowest.{Answers, lowest_tells}
-use Rattle.usage.specs.declared.refusal.Refusal.TheVariants.{OutOfRange}
+use Rattle.usage.specs.declared.refusing.Refusal.TheVariants.{OutOfRange}
 use Rattle.tree.specs.Trees.{TreeRule, share_branch}
 use Rattle.tree.proofs.Sharing.{decides_share}
-use Rattle.draft.specs.declared.refusal.Refusal.TheVariants.{NoSuchNode, Tariff, BranchPriced}
+use Rattle.draft.specs.declared.refusing.Refusal.TheVariants.{NoSuchNode, Tariff, BranchPriced}
 use Rattle.draft.specs.Drafts.{DraftData, with_price}
 use Rattle.draft.specs.Rules.{unless, priced_on_branch, enter_price}
 use Rattle.draft.specs.Rows.{PricedOnBranch, PriceRow, no_node, high_price, branch_priced, PriceAnswer}

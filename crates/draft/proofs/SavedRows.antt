@@ -8,11 +8,11 @@ use Rattle.refusal.specs.Lowest.{lowest}
 use Rattle.refusal.proofs.Lowest.{Answers, lowest_tells}
 use Rattle.ordered.specs.Members.{Among}
 use Rattle.usage.specs.Groups.{GroupData, InOrder}
-use Rattle.usage.specs.declared.refusal.Refusal.TheVariants.{OutOfRange}
+use Rattle.usage.specs.declared.refusing.Refusal.TheVariants.{OutOfRange}
 use Rattle.prices.specs.Tables.{has_price}
 use Rattle.tree.specs.Trees.{TreeRule, EndService, Seat, seat_of, end_at}
 use Rattle.tree.proofs.Seats.{seating, seat_said}
-use Rattle.draft.specs.declared.refusal.Refusal.TheVariants.{Tariff, NoPrice}
+use Rattle.draft.specs.declared.refusing.Refusal.TheVariants.{Tariff, NoPrice}
 use Rattle.draft.specs.Apart.{Apart, Seated}
 use Rattle.draft.specs.Drafts.{DraftData, if_there}
 use Rattle.draft.specs.Rules.{unless}

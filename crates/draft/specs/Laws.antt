@@ -3,7 +3,7 @@ use Rattle.std.specs.Prelude.{◌≡◌, ℕ, false, List, [], ◌∷◌, Ok, De
 use Rattle.ordered.specs.Members.{Among}
 use Rattle.usage.specs.Groups.{GroupData}
 use Rattle.tree.specs.Trees.{TreeRule}
-use Rattle.draft.specs.declared.refusal.Refusal.{Refusal}
+use Rattle.draft.specs.declared.refusing.Refusal.{Refusal}
 use Rattle.draft.specs.Apart.{PriceAt}
 use Rattle.draft.specs.Drafts.{DraftData, empty_draft, Member}
 use Rattle.draft.specs.Rules.{enter_price, enter_group}

@@ -3,8 +3,8 @@ use Rattle.std.specs.Prelude.{ℕ, [], ◌∷◌}
 use Rattle.refusal.specs.Rows.{RowData, bare}
 use Rattle.refusal.specs.declared.value.Value.TheVariants.{Node}
 use Rattle.usage.specs.Refusals.{row_of as tariff_row}
-use Rattle.draft.specs.declared.refusal.Refusal.{Refusal}
-use Rattle.draft.specs.declared.refusal.Refusal.TheVariants.{NoSuchNode, Tariff, BranchPriced, BranchShared, NoPrice}
+use Rattle.draft.specs.declared.refusing.Refusal.{Refusal}
+use Rattle.draft.specs.declared.refusing.Refusal.TheVariants.{NoSuchNode, Tariff, BranchPriced, BranchShared, NoPrice}
 
 -- a row that names a node
 abbrev pub names : ℕ → ℕ → RowData

@@ -6,7 +6,7 @@ use Rattle.refusal.specs.Lowest.{Lowest}
 use Rattle.ordered.specs.Members.{Among}
 use Rattle.usage.specs.Groups.{GroupData}
 use Rattle.tree.specs.Trees.{ShareBranch}
-use Rattle.draft.specs.declared.refusal.Refusal.{Refusal}
+use Rattle.draft.specs.declared.refusing.Refusal.{Refusal}
 use Rattle.draft.specs.Apart.{PriceAt}
 use Rattle.draft.specs.Drafts.{DraftData, with_price, with_group_at}
 use Rattle.draft.specs.Refusals.{names, row_of}

@@ -2,10 +2,10 @@
 use Rattle.std.specs.Prelude.{ℕ, Bool, false, cond, not, ◌&&◌, ◌||◌, List, [], ◌∷◌, length, is_some, Some, None, Ok, Err, Option, Result, ◌==◌, nat_le, nat_lt, slice_index_or}
 use Rattle.refusal.specs.Lowest.{lowest}
 use Rattle.usage.specs.Groups.{group_data, group_cause}
-use Rattle.usage.specs.declared.refusal.Refusal.TheVariants.{OutOfRange}
+use Rattle.usage.specs.declared.refusing.Refusal.TheVariants.{OutOfRange}
 use Rattle.tree.specs.Trees.{among, share_branch}
-use Rattle.draft.specs.declared.refusal.Refusal.{Refusal}
-use Rattle.draft.specs.declared.refusal.Refusal.TheVariants.{NoSuchNode, Tariff, BranchPriced, BranchShared}
+use Rattle.draft.specs.declared.refusing.Refusal.{Refusal}
+use Rattle.draft.specs.declared.refusing.Refusal.TheVariants.{NoSuchNode, Tariff, BranchPriced, BranchShared}
 use Rattle.draft.specs.Drafts.{DraftData, with_price, flagged, members_of, with_group_at}
 
 -- an answer, with a function applied to the value of an Ok

@@ -5,13 +5,13 @@ use Rattle.refusal.specs.Rows.{RowData, bare}
 use Rattle.refusal.specs.Lowest.{lowest, Lowest}
 use Rattle.ordered.specs.Members.{Among}
 use Rattle.usage.specs.Groups.{GroupData, InOrder, drawn_all}
-use Rattle.usage.specs.declared.refusal.Refusal.TheVariants.{OutOfRange}
+use Rattle.usage.specs.declared.refusing.Refusal.TheVariants.{OutOfRange}
 use Rattle.prices.specs.Amounts.{fixed_part}
 use Rattle.prices.specs.Tables.{TableData, has_price}
 use Rattle.kinds.specs.Meanings.{plan_served, plan_drawn, plan_floor}
 use Rattle.tree.specs.Trees.{is_under, seat_of, end_at, Seat, OnBranch}
-use Rattle.draft.specs.declared.refusal.Refusal.{Refusal}
-use Rattle.draft.specs.declared.refusal.Refusal.TheVariants.{Tariff, NoPrice}
+use Rattle.draft.specs.declared.refusing.Refusal.{Refusal}
+use Rattle.draft.specs.declared.refusing.Refusal.TheVariants.{Tariff, NoPrice}
 use Rattle.draft.specs.Apart.{PriceAt}
 use Rattle.draft.specs.Drafts.{DraftData, if_there}
 use Rattle.draft.specs.Refusals.{names}

@@ -8,7 +8,7 @@ ghost use Rattle.draft.specs.Rules.{map_ok, strays, meets, shares, enter_group};
 ghost use Rattle.draft.specs.Rows.{GroupAnswer};
 
 use crate::draft::Draft;
-use crate::refusal::Refusal;
+use crate::refusing::Refusal;
 use tree::ServiceTree;
 use usage::Seats;
 

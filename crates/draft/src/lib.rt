@@ -6,8 +6,8 @@ pub mod grouping;
 pub mod laws;
 pub mod numbers;
 pub mod pricing;
-pub mod refusal;
+pub mod refusing;
 pub mod saving;
 
 pub use draft::Draft;
-pub use refusal::Refusal;
+pub use refusing::Refusal;

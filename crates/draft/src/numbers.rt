@@ -1,9 +1,9 @@
 //! The number of each refusal, and the node that goes with it.
 ghost use Rattle.std.specs.Prelude.{◌≡◌};
 ghost use Rattle.draft.specs.Refusals.{row_of};
-ghost use Rattle.draft.specs.declared.refusal.Refusal.TheVariants.{Tariff};
+ghost use Rattle.draft.specs.declared.refusing.Refusal.TheVariants.{Tariff};
 
-use crate::refusal::Refusal;
+use crate::refusing::Refusal;
 use refusal::{Row, Value};
 use usage::Refusal as TariffRefusal;
 

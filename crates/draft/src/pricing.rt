@@ -9,7 +9,7 @@ ghost use Rattle.draft.specs.Rules.{map_ok, priced_on_branch, enter_price};
 ghost use Rattle.draft.specs.Rows.{PriceAnswer};
 
 use crate::draft::Draft;
-use crate::refusal::Refusal;
+use crate::refusing::Refusal;
 use prices::UnitPrice;
 use tree::ServiceTree;
 use tree::tree::MOST_NODES;

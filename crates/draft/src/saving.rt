@@ -12,7 +12,7 @@ ghost use Rattle.draft.specs.Saving.{AddonAnswer, PlanAnswer, end_price, seat_pr
 ghost use Rattle.draft.specs.Plans.{plan_table};
 
 use crate::draft::Draft;
-use crate::refusal::Refusal;
+use crate::refusing::Refusal;
 use kinds::Plan;
 use prices::{FixedSum, PriceTable, UnitPrice};
 use usage::Groups;

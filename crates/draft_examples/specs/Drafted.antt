@@ -1,6 +1,6 @@
 -- Drafts of the worked examples. Assumes nothing.
 use Rattle.std.specs.Prelude.{[], ◌∷◌, Ok, Err, Result}
-use Rattle.draft.specs.declared.refusal.Refusal.{Refusal}
+use Rattle.draft.specs.declared.refusing.Refusal.{Refusal}
 use Rattle.draft.specs.Drafts.{DraftData, empty_draft}
 use Rattle.draft.specs.Rules.{enter_price, enter_group}
 

@@ -1,6 +1,6 @@
 -- The table of worked examples of drafts. Assumes nothing.
 use Rattle.std.specs.Prelude.{◌≡◌, true, [], ◌∷◌, is_ok, Ok, Err}
-use Rattle.draft.specs.declared.refusal.Refusal.TheVariants.{BranchPriced, BranchShared, NoPrice}
+use Rattle.draft.specs.declared.refusing.Refusal.TheVariants.{BranchPriced, BranchShared, NoPrice}
 use Rattle.draft.specs.Rules.{enter_price, enter_group}
 use Rattle.draft.specs.Saving.{save_plan, save_addon}
 use Rattle.examples.specs.Offers.{plan_table, option_table}

@@ -3,7 +3,7 @@ use Rattle.std.proofs.Common.{◌≡◌, ℕ, List, [], ◌∷◌, ◌++◌, len
 use Rattle.refusal.specs.Rows.{RowData}
 use Rattle.catalogue.specs.Answers.{told}
 use Rattle.catalogue.specs.declared.memory.Catalogue.{Catalogue}
-use Rattle.catalogue.specs.declared.refusal.Refusal.{Refusal}
+use Rattle.catalogue.specs.declared.refusing.Refusal.{Refusal}
 use Rattle.journal.specs.Stores.{Writes, Stored}
 use Rattle.tariff.specs.Totals.{Meaning}
 use Rattle.catalogue.specs.Books.{Book}

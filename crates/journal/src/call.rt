@@ -1,5 +1,5 @@
 //! Calls on a catalogue, and their answers.
-use crate::refusal::Refusal;
+use crate::refusing::Refusal;
 use heads::RawHead;
 use listing::Enquiry;
 use stages::Line;

@@ -4,12 +4,12 @@
 pub mod call;
 pub mod making;
 pub mod numbers;
-pub mod refusal;
+pub mod refusing;
 pub mod replaying;
 pub mod run;
 
 pub use call::{Answer, Call};
 pub use making::answer;
-pub use refusal::Refusal;
+pub use refusing::Refusal;
 pub use replaying::replay;
 pub use run::{Given, Replayed, Stopped};

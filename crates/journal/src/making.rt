@@ -8,7 +8,7 @@ ghost use Rattle.journal.specs.Runs.{Answered, Extends};
 ghost use Rattle.journal.specs.Stores.{Stored};
 
 use crate::call::{Answer, Call};
-use crate::refusal::Refusal;
+use crate::refusing::Refusal;
 use catalogue::{Catalogue, Refusal as CatalogueRefusal};
 use listing::list;
 use tariff::Tariff;

@@ -1,7 +1,7 @@
 //! The number of each refusal, and the values that go with it.
 ghost use Rattle.journal.specs.Refusals.{row_of};
 
-use crate::refusal::Refusal;
+use crate::refusing::Refusal;
 use refusal::{Row, Value};
 
 impl Row for Refusal {

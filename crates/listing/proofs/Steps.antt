@@ -11,7 +11,7 @@ use Rattle.ordered.specs.Ascending.{ascending}
 use Rattle.ordered.proofs.Members.{among_get_or}
 use Rattle.stages.specs.declared.line.Line.{Line}
 use Rattle.stages.specs.declared.gathering.Gathering.{Gathering}
-use Rattle.stages.specs.declared.refusal.Refusal.{Refusal}
+use Rattle.stages.specs.declared.refusing.Refusal.{Refusal}
 use Rattle.stages.specs.Lines.{line_of, blank, earlier}
 use Rattle.stages.specs.Cutting.{keeps, cut_to}
 use Rattle.stages.specs.Stages.{gathering, put_among, PutsLine}

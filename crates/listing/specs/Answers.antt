@@ -4,7 +4,7 @@ use Rattle.tariff.specs.Totals.{Meaning}
 use Rattle.catalogue.specs.Books.{Book}
 use Rattle.stages.specs.declared.line.Line.{Line}
 use Rattle.stages.specs.Lines.{blank}
-use Rattle.listing.specs.declared.refusal.Refusal.{Refusal}
+use Rattle.listing.specs.declared.refusing.Refusal.{Refusal}
 use Rattle.listing.specs.Enquiries.{EnquiryData}
 use Rattle.listing.specs.Shown.{Shown}
 use Rattle.listing.specs.Table.{ListDeclined, ListNoCause}

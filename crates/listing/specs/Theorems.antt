@@ -5,7 +5,7 @@ use Rattle.tariff.specs.Totals.{Meaning}
 use Rattle.catalogue.specs.Books.{Book}
 use Rattle.ordered.specs.Members.{Among}
 use Rattle.stages.specs.declared.line.Line.{Line}
-use Rattle.listing.specs.declared.refusal.Refusal.{Refusal}
+use Rattle.listing.specs.declared.refusing.Refusal.{Refusal}
 use Rattle.listing.specs.Enquiries.{EnquiryData}
 use Rattle.listing.specs.Shown.{Shown}
 

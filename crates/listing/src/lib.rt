@@ -6,8 +6,8 @@ pub mod fitting;
 pub mod listing;
 pub mod numbers;
 pub mod queueing;
-pub mod refusal;
+pub mod refusing;
 
 pub use enquiry::Enquiry;
 pub use listing::list;
-pub use refusal::Refusal;
+pub use refusing::Refusal;

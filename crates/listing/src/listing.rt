@@ -8,7 +8,7 @@ ghost use Rattle.listing.specs.Theorems.{ListFixed, ListBounded, LinesCosted};
 
 use crate::enquiry::Enquiry;
 use crate::queueing::{gather, line_up};
-use crate::refusal::Refusal;
+use crate::refusing::Refusal;
 use catalogue::Catalogue;
 use catalogue::memory::MOST_PLACES;
 use ranking::Queued;

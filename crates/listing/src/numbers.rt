@@ -1,7 +1,7 @@
 //! The number of each refusal.
 ghost use Rattle.listing.specs.Refusals.{row_of};
 
-use crate::refusal::Refusal;
+use crate::refusing::Refusal;
 use refusal::{Row, Value};
 
 impl Row for Refusal {

@@ -1,6 +1,6 @@
 //! Sums and prices from raw numbers, and their numbers back.
 ghost use Rattle.std.specs.Prelude.{◌≡◌, ◌<◌, ◌≤◌, MatchResult};
-ghost use Rattle.usage.specs.declared.refusal.Refusal.TheVariants.{OutOfRange};
+ghost use Rattle.usage.specs.declared.refusing.Refusal.TheVariants.{OutOfRange};
 ghost use Rattle.prices.specs.Amounts.{fixed_part};
 
 use crate::amounts::{FixedSum, MOST_PRICE, MOST_SUM, UnitPrice};

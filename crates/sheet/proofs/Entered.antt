@@ -3,7 +3,7 @@ use Rattle.std.proofs.Common.{◌≡◌, ℕ, List, Result, refl}
 use Rattle.cursor.specs.declared.part.Part.{Part}
 use Rattle.cursor.specs.Parts.{cut}
 use Rattle.cursor.specs.Readings.{value, field, ranged, run}
-use Rattle.draft.specs.declared.refusal.Refusal.{Refusal}
+use Rattle.draft.specs.declared.refusing.Refusal.{Refusal}
 use Rattle.draft.specs.Drafts.{DraftData}
 use Rattle.draft.specs.Rules.{enter_price, enter_group}
 use Rattle.sheet.specs.Layout.{answered, priced, price_entry, grouped, group_entry}

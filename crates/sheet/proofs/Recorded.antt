@@ -11,7 +11,7 @@ use Rattle.cursor.specs.Encodings.{Bytes, two, four, Text, counted}
 use Rattle.cursor.proofs.Whenever.{Whenever, whenever_weaker, whenever_then, whenever_as, whenever_at, whenever_both}
 use Rattle.cursor.proofs.Written.{Stands, stands_behind, TextRead, one_written, two_written, two_bound, four_written, ranged_whenever, run_written, text_written, ended_written}
 use Rattle.prices.specs.Tables.{TableData}
-use Rattle.draft.specs.declared.refusal.Refusal.{Refusal}
+use Rattle.draft.specs.declared.refusing.Refusal.{Refusal}
 use Rattle.draft.specs.Drafts.{DraftData}
 use Rattle.draft.specs.Saving.{save_plan}
 use Rattle.sheet.specs.declared.fault.Fault.{Fault}

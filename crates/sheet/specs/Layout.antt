@@ -5,7 +5,7 @@ use Rattle.cursor.specs.declared.part.Part.{Part}
 use Rattle.cursor.specs.Parts.{cut}
 use Rattle.cursor.specs.Readings.{Reading, value, fault, then, done, repeated, with_faults, field, ranged, run, text, ended}
 use Rattle.prices.specs.Tables.{TableData}
-use Rattle.draft.specs.declared.refusal.Refusal.{Refusal}
+use Rattle.draft.specs.declared.refusing.Refusal.{Refusal}
 use Rattle.draft.specs.Drafts.{DraftData}
 use Rattle.draft.specs.Rules.{enter_price, enter_group}
 use Rattle.draft.specs.Saving.{save_plan}

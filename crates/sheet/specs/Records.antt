@@ -5,7 +5,7 @@ use Rattle.heads.specs.Rules.{head_of, SoundHead}
 use Rattle.cursor.specs.Parts.{cut}
 use Rattle.cursor.specs.Encodings.{two, four, Text, counted}
 use Rattle.prices.specs.Tables.{TableData}
-use Rattle.draft.specs.declared.refusal.Refusal.{Refusal}
+use Rattle.draft.specs.declared.refusing.Refusal.{Refusal}
 use Rattle.draft.specs.Drafts.{DraftData}
 use Rattle.draft.specs.Saving.{save_plan}
 use Rattle.sheet.specs.Layout.{HeadValues, Contents, priced, grouped}

@@ -1,7 +1,7 @@
 -- The number of each refusal; no value goes with these. Assumes nothing.
 use Rattle.refusal.specs.Rows.{RowData, bare}
-use Rattle.stages.specs.declared.refusal.Refusal.{Refusal}
-use Rattle.stages.specs.declared.refusal.Refusal.TheVariants.{ListLength, ShortMemory, NoSuchLine}
+use Rattle.stages.specs.declared.refusing.Refusal.{Refusal}
+use Rattle.stages.specs.declared.refusing.Refusal.TheVariants.{ListLength, ShortMemory, NoSuchLine}
 
 abbrev pub row_of : Refusal → RowData
 row_of ListLength = bare 20

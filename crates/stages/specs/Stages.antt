@@ -5,7 +5,7 @@ use Rattle.ordered.specs.Inserting.{insert}
 use Rattle.stages.specs.declared.line.Line.{Line}
 use Rattle.stages.specs.declared.gathering.Gathering.{Gathering}
 use Rattle.stages.specs.declared.cut.Cut.{Cut}
-use Rattle.stages.specs.declared.refusal.Refusal.{Refusal}
+use Rattle.stages.specs.declared.refusing.Refusal.{Refusal}
 use Rattle.stages.specs.Lines.{blank, earlier}
 use Rattle.stages.specs.Cutting.{keeps, Falls, cut_to}
 use Rattle.stages.specs.Refusals.{row_of}

@@ -7,10 +7,10 @@ pub mod gathering;
 pub mod line;
 pub mod numbers;
 pub mod reading;
-pub mod refusal;
+pub mod refusing;
 pub mod staging;
 
 pub use cut::Cut;
 pub use gathering::Gathering;
 pub use line::Line;
-pub use refusal::Refusal;
+pub use refusing::Refusal;

@@ -4,7 +4,7 @@ ghost use Rattle.stages.specs.Stages.{Reads};
 
 use crate::cut::Cut;
 use crate::line::Line;
-use crate::refusal::Refusal;
+use crate::refusing::Refusal;
 
 impl Cut {
     /// The line at a place of the list, counted from 0.

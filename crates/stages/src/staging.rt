@@ -6,7 +6,7 @@ use crate::cut::Cut;
 use crate::cutting::{clear, leading};
 use crate::gathering::Gathering;
 use crate::line::Line;
-use crate::refusal::Refusal;
+use crate::refusing::Refusal;
 use ordered::put;
 
 /// The longest list: this many different totals.

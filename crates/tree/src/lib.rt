@@ -4,9 +4,9 @@
 pub mod branches;
 pub mod numbers;
 pub mod opening;
-pub mod refusal;
+pub mod refusing;
 pub mod seating;
 pub mod tree;
 
-pub use refusal::Refusal;
+pub use refusing::Refusal;
 pub use tree::ServiceTree;

@@ -1,7 +1,7 @@
 //! The number of the refusal.
 ghost use Rattle.tree.specs.Refusals.{row_of};
 
-use crate::refusal::Refusal;
+use crate::refusing::Refusal;
 use refusal::{Row, Value};
 
 impl Row for Refusal {

@@ -1,10 +1,10 @@
 //! Service trees from raw lists of parents.
 ghost use Rattle.std.specs.Prelude.{◌≡◌, ◌<◌, ◌≤◌, length, take, Decides, MatchResult};
-ghost use Rattle.tree.specs.declared.refusal.Refusal.TheVariants.{BadTree};
+ghost use Rattle.tree.specs.declared.refusing.Refusal.TheVariants.{BadTree};
 ghost use Rattle.tree.specs.Trees.{Lower, TreeRule, parent, parent_of};
 ghost use Rattle.tree.specs.Held.{parents_of};
 
-use crate::refusal::Refusal;
+use crate::refusing::Refusal;
 use crate::seating::end_count;
 use crate::tree::{MOST_NODES, MOST_SEATS, NO_PARENT, ServiceTree};
 

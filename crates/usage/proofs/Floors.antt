@@ -1,7 +1,7 @@
 -- Floors of shares: how the floor of q * p / s moves as p grows. Assumes nothing.
-use Rattle.std.proofs.Common.{◌≡◌, ℕ, ◌+◌, ◌-◌, ◌*◌, ◌/◌, ◌%◌, ◌<◌, ◌≤◌, sym, refl, ap, ◌∙◌, subst, mul-le-mul_right, mod-lt, mul_comm, add-mul, mul-zero, mul-add, mul-div_cancel, arith}
+use Rattle.std.proofs.Common.{◌≡◌, ℕ, ◌+◌, ◌-◌, ◌*◌, ◌/◌, ◌%◌, ◌<◌, ◌≤◌, ap, ◌∙◌, mul-le-mul_right, mod-lt, mul_comm, add-mul, mul-zero, mul-add, mul-div_cancel, arith}
 use native.Mathlib.Nat.{div-add-mod, zero-div}
-use Rattle.std.proofs.lemmas.Nat.{mul-le, le-div, div_below, div-add-mod'}
+use Rattle.std.proofs.lemmas.Nat.{le-div, div_below, div-add-mod'}
 
 -- floors go up
 pub floor_up : (s x y : ℕ) → 0 < s → x / s ≤ (x + y) / s

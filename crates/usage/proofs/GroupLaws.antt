@@ -1,19 +1,17 @@
 -- The groups of a tariff: orders, places, one group more, and all drawn. Assumes nothing.
-use Rattle.std.proofs.Common.{◌≡◌, ℕ, zero, suc, ◌+◌, ◌<◌, ◌≤◌, Bool, true, false, cond, ◌||◌, eqb, ltb, List, [], ◌∷◌, ◌++◌, map, length, get_or, take, drop, Some, None, Option, sym, refl, ap, ◌∙◌, subst, ⊎_elim, arith}
+use Rattle.std.proofs.Common.{◌≡◌, ℕ, zero, suc, ◌+◌, ◌<◌, ◌≤◌, Bool, true, false, cond, ◌||◌, eqb, ltb, List, [], ◌∷◌, ◌++◌, map, length, get_or, take, drop, Some, None, Option, sym, refl, ap, ◌∙◌, ⊎_elim, arith}
 use Rattle.std.proofs.lemmas.List.{at_drop_more, at_drop_all, get_or-map, length-map, length-take-le, length-append, length-drop}
-use Rattle.std.proofs.lemmas.Bool.{ltb-true, ltb-false, lt-ltb, eq-eqb, ne_eqb, eqb-false, or_parts, or_right, and_from, cond-true, cond-false, lt-leb, cases_lt}
+use Rattle.std.proofs.lemmas.Bool.{ltb-true, lt-ltb, eq-eqb, ne_eqb, eqb-false, or_parts, or_right, and_from, cond-true, cond-false, lt-leb, cases_lt}
 use Rattle.ordered.specs.Inserting.{insert}
 use Rattle.ordered.specs.Ascending.{all, ascending}
 use Rattle.ordered.proofs.Order.{ascending_at, ascending_insert, map_insert, length_insert, take_put}
 use Rattle.usage.specs.declared.group.Group.{Group}
-use Rattle.usage.specs.UsesLists.{UsesList}
 use Rattle.usage.specs.Drawing.{drawn}
 use Rattle.usage.specs.Orders.{lower}
-use Rattle.usage.specs.declared.refusal.Refusal.{Refusal}
-use Rattle.usage.specs.declared.refusal.Refusal.TheVariants.{EmptyGroup, OutOfRange, OrderUsed}
+use Rattle.usage.specs.declared.refusing.Refusal.{Refusal}
+use Rattle.usage.specs.declared.refusing.Refusal.TheVariants.{EmptyGroup, OutOfRange, OrderUsed}
 use Rattle.usage.specs.Groups.{GroupData, data_of, no_member, shape_cause, group_cause, drawn_first, with_group, has_order, group_at, drawn_all, InOrder}
 use Rattle.usage.proofs.Fairness.{drawn_fair}
-use Rattle.usage.proofs.UsesLaws.{lower_uses}
 
 -- `lower` is an order
 pub lower_trans : (a b c : Group) → lower a b ≡ true → lower b c ≡ true → lower a c ≡ true

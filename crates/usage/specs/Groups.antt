@@ -1,10 +1,10 @@
 -- The groups of one plan or option. Assumes nothing.
-use Rattle.std.specs.Prelude.{◌≡◌, ℕ, zero, suc, ◌<◌, Bool, true, false, cond, ◌||◌, List, [], ◌∷◌, length, Some, None, Option, ◌==◌, nat_le, nat_lt, slice_index_or}
+use Rattle.std.specs.Prelude.{ℕ, zero, suc, ◌<◌, Bool, true, false, cond, ◌||◌, List, [], ◌∷◌, length, Some, None, Option, ◌==◌, nat_le, nat_lt, slice_index_or}
 use Rattle.ordered.specs.Inserting.{insert}
 use Rattle.usage.specs.Drawing.{drawn}
 use Rattle.usage.specs.declared.group.Group.{Group}
-use Rattle.usage.specs.declared.refusal.Refusal.{Refusal}
-use Rattle.usage.specs.declared.refusal.Refusal.TheVariants.{EmptyGroup, OutOfRange, NinthGroup, OrderUsed}
+use Rattle.usage.specs.declared.refusing.Refusal.{Refusal}
+use Rattle.usage.specs.declared.refusing.Refusal.TheVariants.{EmptyGroup, OutOfRange, NinthGroup, OrderUsed}
 
 -- a group by its values: which seats are members, whole units, order
 pub record GroupData : Type 0 where

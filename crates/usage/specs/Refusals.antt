@@ -1,7 +1,7 @@
 -- The number of each refusal; no value goes with these. Assumes nothing.
 use Rattle.refusal.specs.Rows.{RowData, bare}
-use Rattle.usage.specs.declared.refusal.Refusal.{Refusal}
-use Rattle.usage.specs.declared.refusal.Refusal.TheVariants.{BadUses, EmptyGroup, OutOfRange, NinthGroup, OrderUsed}
+use Rattle.usage.specs.declared.refusing.Refusal.{Refusal}
+use Rattle.usage.specs.declared.refusing.Refusal.TheVariants.{BadUses, EmptyGroup, OutOfRange, NinthGroup, OrderUsed}
 
 abbrev pub row_of : Refusal → RowData
 row_of BadUses = bare 30

@@ -1,5 +1,5 @@
 -- Lists of uses: parts by seat. Assumes nothing.
-use Rattle.std.specs.Prelude.{◌≡◌, ℕ, ◌≤◌, Bool, true, false, cond, ◌&&◌, List, [], ◌∷◌, length, nat_le, slice_index}
+use Rattle.std.specs.Prelude.{◌≡◌, ℕ, ◌≤◌, Bool, true, cond, ◌&&◌, List, [], ◌∷◌, length, nat_le, slice_index}
 
 -- a list of uses has 16 seats, and at most 100,000,000 parts at each
 pub record UsesList (us : List ℕ) : Type 0 where

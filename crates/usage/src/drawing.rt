@@ -5,7 +5,7 @@ ghost use Rattle.usage.specs.Groups.{group_data, data_of, shape_cause};
 ghost use Rattle.usage.specs.Laws.{FairDraw};
 
 use crate::group::{Group, MOST_UNITS};
-use crate::refusal::Refusal;
+use crate::refusing::Refusal;
 use crate::seats::Seats;
 use crate::uses::Uses;
 

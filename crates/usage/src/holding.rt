@@ -7,7 +7,7 @@ ghost use Rattle.usage.specs.Held.{held};
 
 use crate::group::Group;
 use crate::groups::{Groups, MOST_GROUPS};
-use crate::refusal::Refusal;
+use crate::refusing::Refusal;
 use crate::seats::Seats;
 use crate::uses::Uses;
 use ordered::{Ranked, put};

@@ -8,12 +8,12 @@ pub mod groups;
 pub mod holding;
 pub mod listing;
 pub mod numbers;
-pub mod refusal;
+pub mod refusing;
 pub mod seats;
 pub mod uses;
 
 pub use group::Group;
 pub use groups::Groups;
-pub use refusal::Refusal;
+pub use refusing::Refusal;
 pub use seats::Seats;
 pub use uses::Uses;

@@ -1,9 +1,9 @@
 //! Lists of uses from raw numbers, and their numbers back.
 ghost use Rattle.std.specs.Prelude.{◌≡◌, MatchResult};
-ghost use Rattle.usage.specs.declared.refusal.Refusal.TheVariants.{BadUses};
+ghost use Rattle.usage.specs.declared.refusing.Refusal.TheVariants.{BadUses};
 ghost use Rattle.usage.specs.UsesLists.{UsesList, small};
 
-use crate::refusal::Refusal;
+use crate::refusing::Refusal;
 use crate::uses::{MOST_PARTS, SEATS, Uses};
 
 impl Uses {

@@ -1,7 +1,7 @@
 use Rattle.std.proofs.Common.{Result, sym, subst}
 use Rattle.tree.specs.Held.{parents_of}
 use Rattle.tree.proofs.Held.{keeps_rule}
-use Rattle.draft.specs.declared.refusal.Refusal.{Refusal}
+use Rattle.draft.specs.declared.refusing.Refusal.{Refusal}
 use Rattle.draft.specs.Drafts.{DraftData, draft_data}
 use Rattle.draft.specs.Rows.{GroupAnswer}
 use Rattle.draft.proofs.GroupRows.{group_answers}

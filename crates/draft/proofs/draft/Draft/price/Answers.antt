@@ -1,6 +1,6 @@
 use Rattle.std.proofs.Common.{Result, sym, subst}
 use Rattle.tree.proofs.Held.{keeps_rule}
-use Rattle.draft.specs.declared.refusal.Refusal.{Refusal}
+use Rattle.draft.specs.declared.refusing.Refusal.{Refusal}
 use Rattle.draft.specs.Drafts.{DraftData, draft_data}
 use Rattle.draft.specs.Rows.{PriceAnswer}
 use Rattle.draft.proofs.PriceRows.{price_answers}

@@ -2,7 +2,7 @@ use Rattle.std.proofs.Common.{take, Result, sym, subst}
 use Rattle.prices.specs.Tables.{TableData}
 use Rattle.usage.proofs.GroupLaws.{held_in_order}
 use Rattle.tree.proofs.Held.{keeps_rule}
-use Rattle.draft.specs.declared.refusal.Refusal.{Refusal}
+use Rattle.draft.specs.declared.refusing.Refusal.{Refusal}
 use Rattle.draft.specs.Drafts.{draft_data}
 use Rattle.draft.specs.Saving.{AddonAnswer}
 use Rattle.draft.proofs.SavedRows.{addon_answers}

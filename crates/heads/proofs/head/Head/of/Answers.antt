@@ -6,7 +6,15 @@ use Rattle.heads.proofs.head.Head.of.Goals as goal
 pub invariant_of-result : goal.invariant_of-result
 invariant_of-result c =
     let suits = c.suits.ensures.0 c.if-not-suits.false in
-    (omega arith, (omega arith, (omega arith, (omega arith, (omega arith, ((λ e. (suits e).0), ((λ e. (suits e).1), tt)))))))
+    record {
+      known = omega arith;
+      bound = omega arith;
+      begins = omega arith;
+      ends = omega arith;
+      ordered = omega arith;
+      mobile = λ e. (suits e).0;
+      termless = λ e. (suits e).1;
+    }
 
 pub returns : goal.returns
 returns c =

@@ -19,7 +19,14 @@ invariant_of-result c =
     let fits : printable text ≡ true = sym c.are_printable.ensures ∙ c.if-not-are_printable.false in
     let all : c.loop-i.i ≡ length text = omega arith in
     let copied : Copied text c.loop-i.bytes (length text) = subst (λ (i : ℕ). Copied text c.loop-i.bytes i) all c.loop-i.invariant in
-    (copied.room, (omega arith, (omega arith, (copied_low text c.loop-i.bytes fits copied, (copied_high text c.loop-i.bytes fits copied, (copied.behind, tt))))))
+    record {
+      room = copied.room;
+      some = omega arith;
+      short = omega arith;
+      low = copied_low text c.loop-i.bytes fits copied;
+      high = copied_high text c.loop-i.bytes fits copied;
+      behind = copied.behind;
+    }
 
 pub returns : goal.returns
 returns c =

@@ -1,4 +1,4 @@
-use Rattle.std.proofs.Common.{◌≡◌, ℕ, ◌+◌, ◌-◌, ◌*◌, ◌/◌, ◌<◌, ◌≤◌, length, get_or, sym, subst, arith}
+use Rattle.std.proofs.Common.{◌≡◌, ℕ, ◌+◌, ◌*◌, ◌/◌, ◌<◌, ◌≤◌, length, get_or, sym, subst, arith}
 use Rattle.std.proofs.lemmas.Nat.{mul-le}
 use Rattle.usage.specs.Drawing.{drawn}
 use Rattle.usage.specs.Laws.{FairDraw}
@@ -78,7 +78,10 @@ invariant_of-result c =
     let us = c.args.uses.parts in
     let e : c.loop-i.parts ≡ drawn ms units us =
     drawing_all ms us units _ _ c.loop-i.i c.loop-i.parts _ _ c.members_use-s.ensures.is c.min-q.ensures (omega arith) (omega arith) (omega arith) c.loop-i.invariant in
-    (c.loop-i.invariant.0, ((λ k. rw e (omega (arith, (drawn_fair ms units us).lowers k, c.args.uses.bounded k))), tt))
+    record {
+      seats = c.loop-i.invariant.0;
+      bounded = λ k. rw e (omega (arith, (drawn_fair ms units us).lowers k, c.args.uses.bounded k));
+    }
 
 pub returns : goal.returns
 returns c =

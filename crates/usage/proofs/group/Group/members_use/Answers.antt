@@ -1,5 +1,4 @@
-use Rattle.std.proofs.Common.{◌≡◌, ℕ, ◌+◌, ◌<◌, ◌≤◌, length, get_or, drop, arith, rules}
-use Rattle.usage.specs.Drawing.{used}
+use Rattle.std.proofs.Common.{◌<◌, ◌≤◌, length, get_or, arith}
 use Rattle.usage.proofs.Steps.{used_in, used_out, used_end}
 use Rattle.usage.proofs.group.Group.members_use.Goals as goal
 use Rattle.usage.proofs.group.Group.members_use.Goals.{then-self-i, else-self-i}

@@ -20,16 +20,12 @@ invariant_of-result c =
     let order : group.order ≡ c.args.order = ap (λ (d : GroupData). d.order) c.in_ok-group.ensures.1 in
     let unused : has_order c.args.order (map data_of kept) ≡ false = search rules in
     let free : has_order group.order (map data_of kept) ≡ false = ap (λ o. has_order o (map data_of kept)) order ∙ unused in
-    let room : self.count < length self.entries = omega arith in (
-      put_length group self.entries fs self.count room wrote ∙ self.room,
-      (
-        omega arith,
-        (
-          put_rising group self.entries fs self.count room wrote self.rising free,
-          tt,
-        ),
-      ),
-    )
+    let room : self.count < length self.entries = omega arith in
+    record {
+      room = put_length group self.entries fs self.count room wrote ∙ self.room;
+      few = omega arith;
+      rising = put_rising group self.entries fs self.count room wrote self.rising free;
+    }
 
 pub returns-in-Ok : goal.returns-in-Ok
 returns-in-Ok c =

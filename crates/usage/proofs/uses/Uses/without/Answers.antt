@@ -1,4 +1,4 @@
-use Rattle.std.proofs.Common.{◌≡◌, ◌≤◌, Bool, length, sym, ap, ◌∙◌, arith}
+use Rattle.std.proofs.Common.{Bool, length, ap, ◌∙◌, arith}
 use Rattle.usage.proofs.UsesLaws.{cleared_more, clear_at, cleared_low, cleared_length, cleared_all}
 use Rattle.usage.proofs.uses.Uses.without.Goals as goal
 use Rattle.usage.proofs.uses.Uses.without.Goals.{then-seats-i, else-seats-i}
@@ -16,10 +16,11 @@ pub invariant_of-result : goal.invariant_of-result
 invariant_of-result c =
     let fs = c.args.seats.now.flags in
     let us = c.args.self.parts in
-    let e = c.loop-i.invariant ∙ cleared_all fs us c.loop-i.i (omega arith) in (
-      ap length e ∙ cleared_length fs us ∙ c.args.self.seats,
-      ((λ k. rw e (omega (arith, cleared_low fs us k, c.args.self.bounded k))), tt),
-    )
+    let e = c.loop-i.invariant ∙ cleared_all fs us c.loop-i.i (omega arith) in
+    record {
+      seats = ap length e ∙ cleared_length fs us ∙ c.args.self.seats;
+      bounded = λ k. rw e (omega (arith, cleared_low fs us k, c.args.self.bounded k));
+    }
 
 pub returns : goal.returns
 returns c = c.loop-i.invariant ∙ cleared_all c.args.seats.now.flags c.args.self.parts c.loop-i.i (omega arith)
