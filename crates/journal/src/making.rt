@@ -17,9 +17,9 @@ use tariff::Tariff;
 ///
 /// Its answer is what the book says that the catalogue holds, and it goes behind any run that led to that book.
 pub fn answer<T: Tariff + Drop>(catalogue: &mut Catalogue<T>, call: Call<T>) -> Answer<T>
-    ensures answered { Answered (meaning served drawn charged floor) (held catalogue.old) (call_data call) (answer_data result) (held catalogue.new) }
+    ensures answered { Answered (meaning T.served T.drawn T.charged T.floor) (held catalogue.old) (call_data call) (answer_data result) (held catalogue.new) }
     ensures stored { Stored catalogue.old (call_data call) (answer_data result) catalogue.new }
-    ensures extends { Extends (meaning served drawn charged floor) (held catalogue.old) (call_data call) (answer_data result) (held catalogue.new) }
+    ensures extends { Extends (meaning T.served T.drawn T.charged T.floor) (held catalogue.old) (call_data call) (answer_data result) (held catalogue.new) }
 {
     match call {
         Call::Enter(place, head, tariff) => match catalogue.enter(place, &head, tariff) {

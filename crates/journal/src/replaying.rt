@@ -14,8 +14,8 @@ use tariff::Tariff;
 /// Every answer is what the book of the earlier calls says; a list call is answered exactly where no row of the table of
 /// refusals holds, and then shows the cheapest fitting offers of that book. It allocates nothing.
 pub fn replay<T: Tariff + Drop>(given: Given<T>) -> Result<Replayed<T>, Stopped<T>>
-    ensures replays { Replays (meaning served drawn charged floor) given result }
-    ensures laws { RunLaws (meaning served drawn charged floor) }
+    ensures replays { Replays (meaning T.served T.drawn T.charged T.floor) given result }
+    ensures laws { RunLaws (meaning T.served T.drawn T.charged T.floor) }
 {
     let room = given.answers.capacity() - given.answers.len();
     if room < given.calls.len() {

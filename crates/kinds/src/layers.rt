@@ -64,7 +64,7 @@ impl<T: Tariff> AddOn<T> {
     pub fn empty(below: T) -> AddOn<T>
         ensures below { result.below ≡ below }
         ensures table { table_data result.table ≡ empty_table }
-        ensures nothing { ChangesNothing (addon_served (table_data result.table) (served result.below)) (addon_drawn (table_data result.table) (drawn result.below)) (addon_charge (table_data result.table) (charged result.below)) (addon_floor (table_data result.table) (floor result.below)) (served below) (drawn below) (charged below) (floor below) }
+        ensures nothing { ChangesNothing (addon_served (table_data result.table) (T.served result.below)) (addon_drawn (table_data result.table) (T.drawn result.below)) (addon_charge (table_data result.table) (T.charged result.below)) (addon_floor (table_data result.table) (T.floor result.below)) (T.served below) (T.drawn below) (T.charged below) (T.floor below) }
     {
         AddOn {
             table: PriceTable::empty(),

@@ -51,7 +51,7 @@ fn agree(asked: u8, code: u8) -> bool
 
 // Whether the tariff serves every seat with a use above 0.
 fn serves_uses<T: Tariff>(tariff: &T, uses: &Uses) -> bool
-    ensures { result ≡ serves_all (served tariff.now) 0 uses.now.parts }
+    ensures { result ≡ serves_all (T.served tariff.now) 0 uses.now.parts }
 {
     let parts = uses.parts();
     for seat in 0..16 {
@@ -70,7 +70,7 @@ pub(crate) fn floor_at<T: Tariff>(
     place: usize,
 ) -> Option<u64>
     requires { uses.now.parts ≡ (enquiry_data enquiry.now).estimate }
-    ensures { MatchOption result ((offer_at (offers (meaning served drawn charged floor) (held catalogue.now) (enquiry_data enquiry.now)) place).fits ≡ false) (λ f. ((offer_at (offers (meaning served drawn charged floor) (held catalogue.now) (enquiry_data enquiry.now)) place).fits ≡ true) × (f ≡ (offer_at (offers (meaning served drawn charged floor) (held catalogue.now) (enquiry_data enquiry.now)) place).floor)) }
+    ensures { MatchOption result ((offer_at (offers (meaning T.served T.drawn T.charged T.floor) (held catalogue.now) (enquiry_data enquiry.now)) place).fits ≡ false) (λ f. ((offer_at (offers (meaning T.served T.drawn T.charged T.floor) (held catalogue.now) (enquiry_data enquiry.now)) place).fits ≡ true) × (f ≡ (offer_at (offers (meaning T.served T.drawn T.charged T.floor) (held catalogue.now) (enquiry_data enquiry.now)) place).floor)) }
 {
     match catalogue.offer(place) {
         Some((head, tariff)) => {

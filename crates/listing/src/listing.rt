@@ -24,10 +24,10 @@ pub fn list<T: Tariff>(
     enquiry: &Enquiry,
     memory: &mut [Line],
 ) -> Result<(usize, usize), Refusal>
-    ensures answered { ListAnswered (meaning served drawn charged floor) (held catalogue.now) (enquiry_data enquiry.now) memory.old result memory.new }
-    ensures fixed { ListFixed (meaning served drawn charged floor) (held catalogue.now) (enquiry_data enquiry.now) }
+    ensures answered { ListAnswered (meaning T.served T.drawn T.charged T.floor) (held catalogue.now) (enquiry_data enquiry.now) memory.old result memory.new }
+    ensures fixed { ListFixed (meaning T.served T.drawn T.charged T.floor) (held catalogue.now) (enquiry_data enquiry.now) }
     ensures bounded { ListBounded (length (held catalogue.now)) result }
-    ensures costed { LinesCosted (meaning served drawn charged floor) (held catalogue.now) (enquiry_data enquiry.now) }
+    ensures costed { LinesCosted (meaning T.served T.drawn T.charged T.floor) (held catalogue.now) (enquiry_data enquiry.now) }
 {
     let Ok(begun) = Gathering::begin(enquiry.length) else {
         return Err(Refusal::ListLength);

@@ -22,7 +22,7 @@ use usage::Uses;
 
 // The total of the offer published at a place.
 fn total_at<T: Tariff>(catalogue: &Catalogue<T>, uses: &Uses, place: usize) -> u64
-    ensures { (h : HeadData) (t : T) → place_at (held catalogue.now) place ≡ Some (published h t) → result ≡ offer_total (drawn t) (charged t) uses.now.parts }
+    ensures { (h : HeadData) (t : T) → place_at (held catalogue.now) place ≡ Some (published h t) → result ≡ offer_total (T.drawn t) (T.charged t) uses.now.parts }
 {
     match catalogue.offer(place) {
         Some((_, tariff)) => total(tariff, *uses),
@@ -40,7 +40,7 @@ pub(crate) fn line_up<T: Tariff>(
     requires uses { uses.now.parts ≡ (enquiry_data enquiry.now).estimate }
     requires room { length (held catalogue.now) ≤ length waiting.old }
     ensures within { result ≤ length (held catalogue.now) }
-    ensures queued { take result waiting.new ≡ queue (offers (meaning served drawn charged floor) (held catalogue.now) (enquiry_data enquiry.now)) }
+    ensures queued { take result waiting.new ≡ queue (offers (meaning T.served T.drawn T.charged T.floor) (held catalogue.now) (enquiry_data enquiry.now)) }
 {
     let mut count = 0;
     for place in 0..catalogue.places() {
@@ -63,12 +63,12 @@ pub(crate) fn gather<T: Tariff>(
     memory: &mut [Line],
 ) -> Gathering
     requires uses { uses.now.parts ≡ (enquiry_data enquiry.now).estimate }
-    requires queued { waiting.now ≡ queue (offers (meaning served drawn charged floor) (held catalogue.now) (enquiry_data enquiry.now)) }
+    requires queued { waiting.now ≡ queue (offers (meaning T.served T.drawn T.charged T.floor) (held catalogue.now) (enquiry_data enquiry.now)) }
     requires room { length waiting.now ≤ length memory.old }
     requires fresh { begun ≡ gathering enquiry.now.length 0 }
     ensures stage { result ≡ gathering enquiry.now.length result.held }
-    ensures taken { Taken enquiry.now.length (offers (meaning served drawn charged floor) (held catalogue.now) (enquiry_data enquiry.now)) waiting.now result.held }
-    ensures lines { take result.held memory.new ≡ gathered (offers (meaning served drawn charged floor) (held catalogue.now) (enquiry_data enquiry.now)) (take result.held waiting.now) }
+    ensures taken { Taken enquiry.now.length (offers (meaning T.served T.drawn T.charged T.floor) (held catalogue.now) (enquiry_data enquiry.now)) waiting.now result.held }
+    ensures lines { take result.held memory.new ≡ gathered (offers (meaning T.served T.drawn T.charged T.floor) (held catalogue.now) (enquiry_data enquiry.now)) (take result.held waiting.now) }
 {
     let mut stage = begun;
     let mut costed = 0;

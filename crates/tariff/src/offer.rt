@@ -7,8 +7,8 @@ use usage::Uses;
 
 /// An offer's total: the charge for the drawn estimate, never below the floor, at most 10^18.
 pub fn total<T: Tariff>(tariff: &T, estimate: Uses) -> u64
-    ensures is { result ≡ offer_total (drawn tariff.now) (charged tariff.now) estimate.parts }
-    ensures above { floor tariff.now ≤ result }
+    ensures is { result ≡ offer_total (T.drawn tariff.now) (T.charged tariff.now) estimate.parts }
+    ensures above { T.floor tariff.now ≤ result }
     ensures capped { result ≤ most }
 {
     tariff.charge(&tariff.draw(estimate))

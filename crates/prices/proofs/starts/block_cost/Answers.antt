@@ -10,8 +10,8 @@ few u b price h least low =
     let p : price * 1000 ≤ 1000000000 = omega arith in
     mul-le-mul s p
 
-pub overflow-mul-result-in-Some : goal.overflow-mul-result-in-Some
-overflow-mul-result-in-Some c =
+pub overflow_mul-result-in-Some : goal.overflow_mul-result-in-Some
+overflow_mul-result-in-Some c =
     let b = c.in-Some.b in
     omega (arith, few c.args.parts b.parts b.price.price (omega arith) b.least b.price.low)
 

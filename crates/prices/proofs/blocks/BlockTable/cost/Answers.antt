@@ -10,7 +10,7 @@ loop-seat-preserved c =
     let i = c.loop-seat.seat in
     let long = c.parts-parts.ensures.listed.seats in (
       omega arith,
-      ap (λ n. c.loop-seat.sum + n + seat_sum block_of block_cost (drop (i + 1) bs) (drop (i + 1) us)) c.block-cost-sum.ensures.is
+      ap (λ n. c.loop-seat.sum + n + seat_sum block_of block_cost (drop (i + 1) bs) (drop (i + 1) us)) c.block_cost-sum.ensures.is
           ∙ sum_more block_of block_cost bs us i c.loop-seat.sum c.index-self-seat.result (omega arith) (omega arith) c.loop-seat.invariant.1,
     )
 

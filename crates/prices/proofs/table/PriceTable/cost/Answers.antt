@@ -4,13 +4,13 @@ use Rattle.prices.proofs.Sums.{seat_sum, sum_more, sum_all, priced_is, seat_most
 use Rattle.prices.proofs.table.PriceTable.cost.Goals as goal
 
 -- what one turn adds stays small
-few : (c : goal.After-seat-cost-sum) → c.seat-cost-sum.result ≤ 100000000000000
+few : (c : goal.After-seat_cost-sum) → c.seat_cost-sum.result ≤ 100000000000000
 few c =
-    rw c.seat-cost-sum.ensures
+    rw c.seat_cost-sum.ensures
     (seat_most (get_or c.args.self.now.prices c.loop-seat.seat c.index-self-seat.result) _ (c.parts-parts.ensures.listed.bounded c.loop-seat.seat))
 
-pub overflow-add-sum : goal.overflow-add-sum
-overflow-add-sum c = omega (arith, few c)
+pub overflow_add-sum : goal.overflow_add-sum
+overflow_add-sum c = omega (arith, few c)
 
 pub loop-seat-preserved : goal.loop-seat-preserved
 loop-seat-preserved c =
@@ -19,7 +19,7 @@ loop-seat-preserved c =
     let i = c.loop-seat.seat in
     let long = c.parts-parts.ensures.listed.seats in (
       omega (arith, few c),
-      ap (λ n. c.loop-seat.sum + n + seat_sum price_of seat_cost (drop (i + 1) ps) (drop (i + 1) us)) c.seat-cost-sum.ensures
+      ap (λ n. c.loop-seat.sum + n + seat_sum price_of seat_cost (drop (i + 1) ps) (drop (i + 1) us)) c.seat_cost-sum.ensures
           ∙ sum_more price_of seat_cost ps us i c.loop-seat.sum c.index-self-seat.result (omega arith) (omega arith) c.loop-seat.invariant.1,
     )
 

@@ -8,10 +8,10 @@ loop-seat-preserved c =
     let ps = c.args.self.now.prices in
     let fs = c.loop-seat.flags in
     let i = c.loop-seat.seat in (
-      length-set fs i c.is-some.result ∙ c.loop-seat.invariant.0,
-      take_more_set fs i c.is-some.result (omega arith)
-          ∙ (ap (λ xs. xs ++ (c.is-some.result ∷ [])) c.loop-seat.invariant.1
-          ∙ (ap (λ (b : Bool). map is_some (take i ps) ++ (b ∷ [])) c.is-some.ensures
+      length-set fs i c.is_some.result ∙ c.loop-seat.invariant.0,
+      take_more_set fs i c.is_some.result (omega arith)
+          ∙ (ap (λ xs. xs ++ (c.is_some.result ∷ [])) c.loop-seat.invariant.1
+          ∙ (ap (λ (b : Bool). map is_some (take i ps) ++ (b ∷ [])) c.is_some.ensures
           ∙ sym (map_more is_some ps i c.index-self-seat.result (omega arith)))),
     )
 
