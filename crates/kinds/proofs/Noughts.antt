@@ -1,5 +1,5 @@
 -- The list of uses with nothing used, and the add-on that changes nothing. Assumes nothing.
-use Rattle.std.proofs.Common.{◌≡◌, ℕ, zero, suc, ◌≤◌, Bool, ◌||◌, List, get_or, replicate, refl, ap, arith}
+use Rattle.std.proofs.Common.{ℕ, zero, suc, ◌≤◌, Bool, ◌||◌, List, get_or, replicate, refl, ap, arith}
 use Rattle.usage.specs.UsesLists.{UsesList}
 use Rattle.tariff.specs.Totals.{most}
 use Rattle.prices.specs.Tables.{empty_table}

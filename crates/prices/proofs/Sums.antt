@@ -1,10 +1,10 @@
 -- Turns of the loops over seats. Assumes nothing.
-use Rattle.std.proofs.Common.{◌≡◌, ℕ, zero, suc, ◌+◌, ◌-◌, ◌*◌, ◌/◌, ◌<◌, ◌≤◌, Bool, false, List, [], ◌∷◌, map, length, get_or, drop, replicate, is_some, Some, None, Option, sym, refl, ap, ◌∙◌, div-lt_iff_lt-mul, add-mul, mul-le-mul, mul-le-mul_left, one-mul, arith}
+use Rattle.std.proofs.Common.{◌≡◌, ℕ, zero, suc, ◌+◌, ◌-◌, ◌*◌, ◌<◌, ◌≤◌, false, List, [], ◌∷◌, map, length, get_or, drop, replicate, is_some, Some, None, Option, refl, ap, div-lt_iff_lt-mul, add-mul, mul-le-mul, mul-le-mul_left, one-mul, arith}
 use Rattle.std.proofs.lemmas.List.{drop_more, at_drop_all}
 use Rattle.prices.specs.declared.amounts.UnitPrice.{UnitPrice}
 use Rattle.prices.specs.declared.block.Block.{Block}
 use Rattle.prices.specs.Tables.{price_of, has_price, seat_cost, priced_cost, without_priced}
-use Rattle.prices.specs.Blocks.{BlockData, block_of, started, block_cost, blocks_cost}
+use Rattle.prices.specs.Blocks.{block_of, started, block_cost, blocks_cost}
 
 -- a sum over seats of what a thing at the seat makes of the use there
 abbrev pub seat_sum : {X Y : Type 0} → (X → Y) → (Y → ℕ → ℕ) → List X → List ℕ → ℕ

@@ -1,6 +1,5 @@
 -- Tables of prices, by their numbers. Assumes nothing.
 use Rattle.std.specs.Prelude.{ℕ, ◌+◌, ◌*◌, Bool, List, [], ◌∷◌, map, replicate, is_some, Some, None, Option, slice_index_or}
-use Rattle.std.specs.Option.{option_map}
 use Rattle.usage.specs.Groups.{GroupData}
 use Rattle.usage.specs.Held.{held}
 use Rattle.usage.specs.UsesLists.{cleared}

@@ -8,7 +8,7 @@ use Rattle.ordered.proofs.Sorted.{ascending_same}
 use Rattle.stages.specs.declared.line.Line.{Line}
 use Rattle.stages.specs.Lines.{line_of, earlier}
 use Rattle.ranking.specs.declared.queued.Queued.{Queued}
-use Rattle.ranking.specs.Offers.{Offer, offer_at, Fitting, fitting, FloorsHold}
+use Rattle.ranking.specs.Offers.{Offer, offer_at, Fitting, FloorsHold}
 use Rattle.ranking.specs.Totals.{totals, places, occurs, different}
 use Rattle.ranking.specs.Queues.{queued_at, LinedUp, queue}
 use Rattle.ranking.specs.Costing.{totals_of, Taken, Counted}

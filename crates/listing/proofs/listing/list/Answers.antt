@@ -30,26 +30,26 @@ all-costed : (g : given.Over) (q : EnquiryData) (b : Book g.row.T.Denot) → Lin
 unfolding mean
 all-costed g q b uses = line_costed (mean g) q b (floors_hold (mean g) q b g.met.T.Tariff.keeps g.met.T.Tariff.lowers g.met.T.Tariff.above uses)
 
-pub returns-in-default : goal.returns-in-default
+pub returns-in_default : goal.returns-in_default
 unfolding mean
-returns-in-default g c =
+returns-in_default g c =
     let b = held c.args.catalogue.now in
     let q = enquiry_data c.args.enquiry.now in
     record {
-      answered = (length_row (length b) (length c.args.memory.now) q c.in-default.ensures.1, refl);
+      answered = (length_row (length b) (length c.args.memory.now) q c.in_default.ensures.1, refl);
       fixed = list_fixed (mean g) q b;
       bounded = tt;
       costed = all-costed g q b;
     }
 
-pub returns-then-not-is-sound : goal.returns-then-not-is-sound
+pub returns-then-not-is_sound : goal.returns-then-not-is_sound
 unfolding mean
-returns-then-not-is-sound g c =
+returns-then-not-is_sound g c =
     let b = held c.args.catalogue.now in
     let q = enquiry_data c.args.enquiry.now in
     let began = c.in-Ok.ensures in
     record {
-      answered = (values_row (length b) (length c.args.memory.now) q began.0 began.1 (λ s. both_ways (sound_values q) (sym c.if-not-is-sound.ensures) (sound_is q s)), refl);
+      answered = (values_row (length b) (length c.args.memory.now) q began.0 began.1 (λ s. both_ways (sound_values q) (sym c.if-not-is_sound.ensures) (sound_is q s)), refl);
       fixed = list_fixed (mean g) q b;
       bounded = tt;
       costed = all-costed g q b;
@@ -62,21 +62,21 @@ returns-then-memory-places g c =
     let q = enquiry_data c.args.enquiry.now in
     let began = c.in-Ok.ensures in
     record {
-      answered = (memory_row (length b) (length c.args.memory.now) q began.0 began.1 (values_sound q (sym c.if-not-is-sound.ensures)) (omega (arith, c.places.ensures.is)), refl);
+      answered = (memory_row (length b) (length c.args.memory.now) q began.0 began.1 (values_sound q (sym c.if-not-is_sound.ensures)) (omega (arith, c.places.ensures.is)), refl);
       fixed = list_fixed (mean g) q b;
       bounded = tt;
       costed = all-costed g q b;
     }
 
-pub returns-in-default-new : goal.returns-in-default-new
+pub returns-in_default-new : goal.returns-in_default-new
 unfolding mean
-returns-in-default-new g c =
+returns-in_default-new g c =
     let b = held c.args.catalogue.now in
     let q = enquiry_data c.args.enquiry.now in
     let began = c.in-Ok.ensures in
-    let out = subst (λ us. UsesList us → ⊥) c.deref.ensures.value c.in-default-new.ensures.1 in
+    let out = subst (λ us. UsesList us → ⊥) c.deref.ensures.value c.in_default-new.ensures.1 in
     record {
-      answered = (uses_row (length b) (length c.args.memory.now) q began.0 began.1 (values_sound q (sym c.if-not-is-sound.ensures)) (omega (arith, c.places.ensures.is)) out, refl);
+      answered = (uses_row (length b) (length c.args.memory.now) q began.0 began.1 (values_sound q (sym c.if-not-is_sound.ensures)) (omega (arith, c.places.ensures.is)) out, refl);
       fixed = list_fixed (mean g) q b;
       bounded = tt;
       costed = all-costed g q b;
@@ -93,9 +93,9 @@ returns-in-Ok-cut g c =
     let xs = c.args.memory.now in
     let began = c.in-Ok.ensures in
     let uses : UsesList q.estimate = subst UsesList c.deref.ensures.value c.in-Ok-new.ensures.0 in
-    let n = c.line-up-waiting.result in
-    let waiting = take (n - 0) c.line-up-waiting.new.waiting in
-    let queued : waiting ≡ queue os = ap (λ k. take k c.line-up-waiting.new.waiting) (front n) ∙ c.line-up-waiting.ensures.queued in
+    let n = c.line_up-waiting.result in
+    let waiting = take (n - 0) c.line_up-waiting.new.waiting in
+    let queued : waiting ≡ queue os = ap (λ k. take k c.line_up-waiting.new.waiting) (front n) ∙ c.line_up-waiting.ensures.queued in
     let stage = c.gather-stage.result in
     let costed = stage.held in
     let mem = c.gather-stage.new.memory in
@@ -115,7 +115,7 @@ returns-in-Ok-cut g c =
     let same : c.shown.result ≡ length (cut_lines len ls) = c.shown.ensures ∙ written.1 in
     record {
       answered = (
-        no_row (length b) (length xs) q began.0 began.1 (values_sound q (sym c.if-not-is-sound.ensures)) (omega (arith, c.places.ensures.is)) uses,
+        no_row (length b) (length xs) q began.0 began.1 (values_sound q (sym c.if-not-is_sound.ensures)) (omega (arith, c.places.ensures.is)) uses,
         record {
           lines = cut_lines len ls;
           shows = subst (λ k. Shown m b q (cut_lines len ls) k) counted shows;

@@ -23,9 +23,9 @@ use Rattle.listing.proofs.queueing.gather.Goals.{in-Ok, in-Err}
 mean : (g : given.Over) → Meaning g.row.T.Denot
 mean g = meaning g.T.Tariff.served g.T.Tariff.drawn g.T.Tariff.charged g.T.Tariff.floor
 
-pub returns-then-taking-ends : goal.returns-then-taking-ends
+pub returns-then-taking_ends : goal.returns-then-taking_ends
 unfolding mean
-returns-then-taking-ends g c =
+returns-then-taking_ends g c =
     let len = c.args.enquiry.now.length in
     let os = offers (mean g) (held c.args.catalogue.now) (enquiry_data c.args.enquiry.now) in
     let xs = c.args.waiting.now in
@@ -35,7 +35,7 @@ returns-then-taking-ends g c =
     let f = (get_or xs k (queued_of 0 0)).floor in
     let lined : LinedUp os xs = subst (LinedUp os) (sym c.requires.queued) (queue_is os) in
     let holds : k ≡ c.loop-costed.stage.held = sym (ap (λ (s : Gathering). s.held) inv.2) in
-    let means = subst (λ n. ascending earlier (take n mem) ≡ true → Decides true (Ends len (totals (take n mem)) f)) (front k) c.if-taking-ends.ensures.means in
+    let means = subst (λ n. ascending earlier (take n mem) ≡ true → Decides true (Ends len (totals (take n mem)) f)) (front k) c.if-taking_ends.ensures.means in
     let ends : EndsBefore len os xs k = (ends_here os xs lined len k mem true inv.3 means).0 refl in
     let taken : Taken len os xs k = record { within = inv.0; goes_on = inv.4; ends = inr ends } in
     record {
@@ -57,10 +57,10 @@ loop-costed-preserved g c =
     let stage = c.loop-costed.stage in
     let inv = c.loop-costed.invariant in
     let x = get_or xs k (queued_of 0 0) in
-    let cost = c.total-at-cost.result in
+    let cost = c.total_at-cost.result in
     let lined : LinedUp os xs = subst (LinedUp os) (sym c.requires.queued) (queue_is os) in
     let fit = (lined.all_fit x (among_get_or xs k (queued_of 0 0) c.loop-costed-test.true)).0 in
-    let read = read_total (mean g) q b x.place c.args.uses.now.parts cost c.requires.uses fit c.total-at-cost.ensures in
+    let read = read_total (mean g) q b x.place c.args.uses.now.parts cost c.requires.uses fit c.total_at-cost.ensures in
     let holds : stage.held ≡ k = ap (λ (s : Gathering). s.held) inv.2 in
     let room : stage.held < length mem = omega (arith, inv.1, c.requires.room, c.loop-costed-test.true) in
     let put = puts_room stage (line_of x.place cost) mem c.put.new.memory c.put.result c.put.ensures room in
@@ -68,7 +68,7 @@ loop-costed-preserved g c =
       | in-Ok v ↦ (let e = put.0 in let i = v.in-Ok.is in let j = v.stage-is in cc)
       | in-Err v ↦ absurd (let e = put.0 in let i = v.in-Err.is in let z : ◌≡◌ {A = ℕ} 0 1 = cc in omega arith)
     ] in
-    let means = subst (λ n. ascending earlier (take n mem) ≡ true → Decides false (Ends len (totals (take n mem)) x.floor)) (front k) c.if-taking-ends.ensures.means in
+    let means = subst (λ n. ascending earlier (take n mem) ≡ true → Decides false (Ends len (totals (take n mem)) x.floor)) (front k) c.if-taking_ends.ensures.means in
     let ends = ends_here os xs lined len k mem false inv.3 means in (
       omega arith,
       c.put.auto.memory ∙ inv.1,

@@ -9,7 +9,7 @@ use Rattle.listing.specs.Enquiries.{enquiry_data}
 use Rattle.listing.specs.Tests.{offer_of, offers}
 use Rattle.listing.proofs.queueing.line_up.Given as given
 use Rattle.listing.proofs.queueing.line_up.Goals as goal
-use Rattle.listing.proofs.queueing.line_up.Goals.{in-Some+then-is-ok, in-Some+else-is-ok, in-default}
+use Rattle.listing.proofs.queueing.line_up.Goals.{in-Some+then-is-ok, in-Some+else-is-ok, in_default}
 
 mean : (g : given.Over) → Meaning g.row.T.Denot
 mean g = meaning g.T.Tariff.served g.T.Tariff.drawn g.T.Tariff.charged g.T.Tariff.floor
@@ -24,23 +24,23 @@ loop-place-preserved g c =
     let inv = c.loop-place.invariant in
     let many = c.places-place-end.ensures.is in
     let room : n < length xs = omega (arith, inv.0, inv.1, c.requires.room, c.loop-place-test.true) in
-    elim c.match-floor-at.branch [
+    elim c.match-floor_at.branch [
       | in-Some+then-is-ok w ↦
-          let put = puts_ok sooner _ n xs _ w.put.result w.put.ensures (sym w.is-ok.ensures.value ∙ w.if-is-ok.true) in
+          let put = puts_ok sooner _ n xs _ w.put.result w.put.ensures (sym w.is_ok.ensures.value ∙ w.if-is_ok.true) in
           let f = w.in-Some.ensures in (
             omega (arith, w.count-is, inv.0),
-            c.match-floor-at.auto.waiting ∙ inv.1,
-            ap (λ k. take k c.match-floor-at.waiting) w.count-is
+            c.match-floor_at.auto.waiting ∙ inv.1,
+            ap (λ k. take k c.match-floor_at.waiting) w.count-is
                 ∙ (ap (take (n + 1)) w.waiting-is ∙ queue_put_memory os p n w.in-Some.floor xs w.put.new.memory room inv.2 f.0 f.1 put.1),
           )
       | in-Some+else-is-ok w ↦
-          let put = puts_err sooner _ n xs _ w.put.result w.put.ensures (sym w.is-ok.ensures.value ∙ w.if-is-ok.false) in
+          let put = puts_err sooner _ n xs _ w.put.result w.put.ensures (sym w.is_ok.ensures.value ∙ w.if-is_ok.false) in
           absurd (omega (arith, put.0))
-      | in-default w ↦ (
+      | in_default w ↦ (
         omega (arith, w.count-is, inv.0),
-        c.match-floor-at.auto.waiting ∙ inv.1,
-        ap (λ k. take k c.match-floor-at.waiting) w.count-is
-            ∙ (ap (take n) w.waiting-is ∙ (inv.2 ∙ sym (queue_skip os p w.in-default.ensures))),
+        c.match-floor_at.auto.waiting ∙ inv.1,
+        ap (λ k. take k c.match-floor_at.waiting) w.count-is
+            ∙ (ap (take n) w.waiting-is ∙ (inv.2 ∙ sym (queue_skip os p w.in_default.ensures))),
       )
     ]
 

@@ -1,4 +1,4 @@
-use Rattle.std.proofs.Common.{◌≡◌, ℕ, ◌+◌, ◌-◌, ◌*◌, ◌≤◌, sym, ap, mul-le-mul, arith}
+use Rattle.std.proofs.Common.{ℕ, ◌*◌, ◌≤◌, sym, ap, mul-le-mul, arith}
 use Rattle.prices.specs.Blocks.{block_of, block_cost, started}
 use Rattle.prices.proofs.Sums.{started_le}
 use Rattle.prices.proofs.starts.block_cost.Goals as goal

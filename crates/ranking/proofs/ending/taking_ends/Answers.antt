@@ -7,10 +7,10 @@ use Rattle.ranking.specs.Costing.{under, over}
 use Rattle.ranking.proofs.Rising.{over_ends}
 use Rattle.ranking.proofs.ending.taking_ends.Goals as goal
 
-pub returns-then-wanted-different-totals : goal.returns-then-wanted-different-totals
-returns-then-wanted-different-totals c =
+pub returns-then-wanted-different_totals : goal.returns-then-wanted-different_totals
+returns-then-wanted-different_totals c =
     let lines = c.args.lines.now in
     let w = c.args.wanted in
     let f = c.args.floor in
-    let is : c.are-under.result ≡ over w f lines = c.are-under.ensures ∙ ap (λ b. b && all (under f) lines) (sym (le-leb w (neighbouring lines) (omega arith))) in
+    let is : c.are_under.result ≡ over w f lines = c.are_under.ensures ∙ ap (λ b. b && all (under f) lines) (sym (le-leb w (neighbouring lines) (omega arith))) in
     record { is = is; means = λ a. Decides-at _ (over w f lines) is (over_ends w f lines a) }

@@ -39,21 +39,21 @@ returns-in-None g c =
     let at = stands m p s InWork u.0 (omega arith) c.index.ensures c.in-InWork.is u.1 in
     record { judged = amend_early_work (held m) p c.args.last (head_data s.head) u.0 at c.in-None.ensures; stored = refl {a = m}; fits = omega arith }
 
-pub returns-in-None-with-last : goal.returns-in-None-with-last
-returns-in-None-with-last g c =
+pub returns-in-None-with_last : goal.returns-in-None-with_last
+returns-in-None-with_last g c =
     let m = c.args.self.now in
     let p = c.args.place in
     let s = c.index.result.now in
     let u = tariff_at m p (omega arith) in
     let at = stands m p s Published u.0 (omega arith) c.index.ensures c.in-Published.is u.1 in
-    record { judged = amend_early_published (held m) p c.args.last (head_data s.head) u.0 at c.in-None-with-last.ensures; stored = refl {a = m}; fits = omega arith }
+    record { judged = amend_early_published (held m) p c.args.last (head_data s.head) u.0 at c.in-None-with_last.ensures; stored = refl {a = m}; fits = omega arith }
 
 pub returns-in-Some-clashing : goal.returns-in-Some-clashing
 returns-in-Some-clashing g c =
     let m = c.args.self.now in
     record {
-      judged = amend_barred m c.args.place c.index.result.now c.in-Some-with-last.head c.args.last c.in-Some-clashing.other c.deref.result.now (omega arith, c.index.ensures) c.in-Published.is
-          c.in-Some-with-last.ensures.0 c.in-Some-with-last.ensures.1 (c.deref.ensures.value, c.in-Some-clashing.ensures);
+      judged = amend_barred m c.args.place c.index.result.now c.in-Some-with_last.head c.args.last c.in-Some-clashing.other c.deref.result.now (omega arith, c.index.ensures) c.in-Published.is
+          c.in-Some-with_last.ensures.0 c.in-Some-with_last.ensures.1 (c.deref.ensures.value, c.in-Some-clashing.ensures);
       stored = refl {a = m};
       fits = omega arith;
     }
@@ -81,27 +81,37 @@ returns-in-None-clashing g c =
     let p = c.args.place in
     let s = c.index.result.now in
     record {
-      judged = amending_published m p s c.in-Some-with-last.head c.args.last c.deref.result.now (omega arith, c.index.ensures) c.in-Published.is c.in-Some-with-last.ensures.0 c.in-Some-with-last.ensures.1 (c.deref.ensures.value, c.in-None-clashing.ensures);
+      judged = amending_published m p s c.in-Some-with_last.head c.args.last c.deref.result.now (omega arith, c.index.ensures) c.in-Published.is c.in-Some-with_last.ensures.0 c.in-Some-with_last.ensures.1 (c.deref.ensures.value, c.in-None-clashing.ensures);
       stored = record {
         was = slot_data s;
         found = slot_at m p s (omega arith) c.index.ensures;
-        slots = map-set slot_data (vec_items m.slots) p (slot Published c.in-Some-with-last.head) ∙ ap (λ (h : HeadData). set (memory m) p (slot_of Published h)) c.in-Some-with-last.ensures.1
+        slots = map-set slot_data (vec_items m.slots) p (slot Published c.in-Some-with_last.head) ∙ ap (λ (h : HeadData). set (memory m) p (slot_of Published h)) c.in-Some-with_last.ensures.1
             ∙ ap (λ (x : State). set (memory m) p (slot_of x (ending (head_data s.head) c.args.last))) (sym c.in-Published.is);
         tariffs = refl;
       };
       fits = omega arith;
     }
 
-pub invariant-of-self : goal.invariant-of-self
-invariant-of-self g c =
+pub invariant_of-self : goal.invariant_of-self
+invariant_of-self g c =
     let m = c.args.self.now in
     let p = c.args.place in
     let s = c.index.result.now in
-    (m.level, (m.some, (m.few, (apart_after m p (amend p c.args.last) (with_slot m p (slot InWork c.in-Some.head)) (amending_work m p s c.in-Some.head c.args.last (omega arith, c.index.ensures) c.in-InWork.is c.in-Some.ensures.0 c.in-Some.ensures.1), tt))))
+    record {
+      level = m.level;
+      some = m.some;
+      few = m.few;
+      apart = apart_after m p (amend p c.args.last) (with_slot m p (slot InWork c.in-Some.head)) (amending_work m p s c.in-Some.head c.args.last (omega arith, c.index.ensures) c.in-InWork.is c.in-Some.ensures.0 c.in-Some.ensures.1);
+    }
 
-pub invariant-of-self-in-None-clashing : goal.invariant-of-self-in-None-clashing
-invariant-of-self-in-None-clashing g c =
+pub invariant_of-self-in-None-clashing : goal.invariant_of-self-in-None-clashing
+invariant_of-self-in-None-clashing g c =
     let m = c.args.self.now in
     let p = c.args.place in
     let s = c.index.result.now in
-    (m.level, (m.some, (m.few, (apart_after m p (amend p c.args.last) (with_slot m p (slot Published c.in-Some-with-last.head)) (amending_published m p s c.in-Some-with-last.head c.args.last c.deref.result.now (omega arith, c.index.ensures) c.in-Published.is c.in-Some-with-last.ensures.0 c.in-Some-with-last.ensures.1 (c.deref.ensures.value, c.in-None-clashing.ensures)), tt))))
+    record {
+      level = m.level;
+      some = m.some;
+      few = m.few;
+      apart = apart_after m p (amend p c.args.last) (with_slot m p (slot Published c.in-Some-with_last.head)) (amending_published m p s c.in-Some-with_last.head c.args.last c.deref.result.now (omega arith, c.index.ensures) c.in-Published.is c.in-Some-with_last.ensures.0 c.in-Some-with_last.ensures.1 (c.deref.ensures.value, c.in-None-clashing.ensures));
+    }

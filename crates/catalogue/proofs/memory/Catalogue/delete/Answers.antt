@@ -51,9 +51,14 @@ returns-in-InWork g c =
       };
     }
 
-pub invariant-of-self : goal.invariant-of-self
-invariant-of-self g c =
+pub invariant_of-self : goal.invariant_of-self
+invariant_of-self g c =
     let m = c.args.self.now in
     let p = c.args.place in
     let s = c.index-slot.result.now in
-    (m.level, (m.some, (m.few, (apart_after m p (delete p) (with_slot m p (slot Empty s.head)) (deleting m p s (omega arith, c.index-slot.ensures) c.in-InWork.is), tt))))
+    record {
+      level = m.level;
+      some = m.some;
+      few = m.few;
+      apart = apart_after m p (delete p) (with_slot m p (slot Empty s.head)) (deleting m p s (omega arith, c.index-slot.ensures) c.in-InWork.is);
+    }

@@ -19,12 +19,12 @@ returns-then-place-len g c =
       stored = (refl {a = m}, refl);
     }
 
-pub returns-in-default : goal.returns-in-default
-returns-in-default g c =
+pub returns-in_default : goal.returns-in_default
+returns-in_default g c =
     let m = c.args.self.now in
     let x = some_at m c.args.place (omega arith) in
     record {
-      judged = enter_unsound (held m) c.args.place (raw_data c.args.head.now) c.args.tariff x.0 x.1 c.in-default.ensures;
+      judged = enter_unsound (held m) c.args.place (raw_data c.args.head.now) c.args.tariff x.0 x.1 c.in_default.ensures;
       stored = (refl {a = m}, refl);
     }
 
@@ -52,24 +52,17 @@ returns-in-Empty g c =
       };
     }
 
-pub invariant-of-self : goal.invariant-of-self
-invariant-of-self g c =
+pub invariant_of-self : goal.invariant_of-self
+invariant_of-self g c =
     let m = c.args.self.now in
     let p = c.args.place in
     let t = c.args.tariff in
     let h = raw_data c.args.head.now in
     let e = c.in-Some.ensures in
-    let n = slot InWork c.in-Some.head in (
-      m.level,
-      (
-        m.some,
-        (
-          m.few,
-          (
-            apart_after m p (enter p h t) (with_both m p n t)
-                (entering m p c.index.result.now c.in-Some.head h t (omega arith, c.index.ensures) c.in-Empty.is e.1 e.0),
-            tt,
-          ),
-        ),
-      ),
-    )
+    let n = slot InWork c.in-Some.head in record {
+      level = m.level;
+      some = m.some;
+      few = m.few;
+      apart = apart_after m p (enter p h t) (with_both m p n t)
+          (entering m p c.index.result.now c.in-Some.head h t (omega arith, c.index.ensures) c.in-Empty.is e.1 e.0);
+    }

@@ -13,28 +13,33 @@ use Rattle.catalogue.proofs.memory.Catalogue.open.Goals as goal
 pub loop-slot-preserved : goal.loop-slot-preserved
 loop-slot-preserved g c =
     let lt : c.loop-slot.slot-index < length c.loop-slot.slot-items = omega arith in
-    map_over_more clear c.deref-mut-slot-items.result.now c.loop-slot.slot-items c.loop-slot.slot-index _ c.loop-slot-test.true c.loop-slot.invariant (get_or_default c.loop-slot.slot-items c.loop-slot.slot-index _ _ lt)
+    map_over_more clear c.deref_mut-slot-items.result.now c.loop-slot.slot-items c.loop-slot.slot-index _ c.loop-slot-test.true c.loop-slot.invariant (get_or_default c.loop-slot.slot-items c.loop-slot.slot-index _ _ lt)
 
 -- the slots in memory as the loop ends
 emptied-all : (v : Vec Slot Global) (xs ys : List Slot) (i : ℕ) → xs ≡ vec_items v → length ys ≡ v.len → length xs ≤ i → ys ≡ map clear (take i xs) ++ drop i xs
     → (with_items v ys).items ≡ map clear (vec_items v)
 emptied-all v xs ys i e l h inv = with_items_is v ys l ∙ map_over_all clear xs ys i h inv ∙ ap (λ (zs : List Slot). map clear zs) e
 
-pub invariant-of-result : goal.invariant-of-result
-invariant-of-result g c =
+pub invariant_of-result : goal.invariant_of-result
+invariant_of-result g c =
     let v = c.args.slots in
     let o = v.ok.0 in
     let q = c.args.tariffs.ok.0 in
-    let is = emptied-all v c.deref-mut-slot-items.result.now c.loop-slot.slot-items c.loop-slot.slot-index c.deref-mut-slot-items.ensures.value (omega arith) c.loop-slot-test.false c.loop-slot.invariant in
+    let is = emptied-all v c.deref_mut-slot-items.result.now c.loop-slot.slot-items c.loop-slot.slot-index c.deref_mut-slot-items.ensures.value (omega arith) c.loop-slot-test.false c.loop-slot.invariant in
     let book = opened_book (vec_items v) (with_items v c.loop-slot.slot-items).items (vec_items c.args.tariffs) is (omega arith) in
-    (omega arith, (omega arith, (omega arith, (subst (λ (b : Book g.row.T.Denot). Apart b) (sym book) (opened_apart (length (vec_items v))), tt))))
+    record {
+      level = omega arith;
+      some = omega arith;
+      few = omega arith;
+      apart = subst (λ (b : Book g.row.T.Denot). Apart b) (sym book) (opened_apart (length (vec_items v)));
+    }
 
 pub returns : goal.returns
 returns g c =
     let v = c.args.slots in
     let o = v.ok.0 in
     let q = c.args.tariffs.ok.0 in
-    let is = emptied-all v c.deref-mut-slot-items.result.now c.loop-slot.slot-items c.loop-slot.slot-index c.deref-mut-slot-items.ensures.value (omega arith) c.loop-slot-test.false c.loop-slot.invariant in
+    let is = emptied-all v c.deref_mut-slot-items.result.now c.loop-slot.slot-items c.loop-slot.slot-index c.deref_mut-slot-items.ensures.value (omega arith) c.loop-slot-test.false c.loop-slot.invariant in
     let book = opened_book (vec_items v) (with_items v c.loop-slot.slot-items).items (vec_items c.args.tariffs) is (omega arith) in (
       (omega arith, omega arith, omega arith),
       book ∙ ap all_empty (sym o),

@@ -59,9 +59,14 @@ returns-in-None g c =
       };
     }
 
-pub invariant-of-self : goal.invariant-of-self
-invariant-of-self g c =
+pub invariant_of-self : goal.invariant_of-self
+invariant_of-self g c =
     let m = c.args.self.now in
     let p = c.args.place in
     let s = c.index.result.now in
-    (m.level, (m.some, (m.few, (apart_after m p (publish p) (with_slot m p (slot Published s.head)) (publishing m p s c.deref.result.now (omega arith, c.index.ensures) c.in-InWork.is (c.deref.ensures.value, c.in-None.ensures)), tt))))
+    record {
+      level = m.level;
+      some = m.some;
+      few = m.few;
+      apart = apart_after m p (publish p) (with_slot m p (slot Published s.head)) (publishing m p s c.deref.result.now (omega arith, c.index.ensures) c.in-InWork.is (c.deref.ensures.value, c.in-None.ensures));
+    }

@@ -1,4 +1,4 @@
-use Rattle.std.proofs.Common.{◌≡◌, sym, refl, subst}
+use Rattle.std.proofs.Common.{sym, refl, subst}
 use Rattle.prices.specs.Tables.{TableData}
 use Rattle.kinds.specs.Meanings.{addon_served, addon_drawn, addon_charge, addon_floor}
 use Rattle.kinds.specs.Nothing.{ChangesNothing}

@@ -1,5 +1,5 @@
-use Rattle.std.proofs.Common.{◌≡◌, Bool, true, false, ◌||◌, get_or, is_some, None, sym, ap, ◌∙◌}
-use Rattle.prices.specs.Tables.{price_of, has_price, price_data}
+use Rattle.std.proofs.Common.{◌≡◌, Bool, true, false, ◌||◌, is_some, sym, ap, ◌∙◌}
+use Rattle.prices.specs.Tables.{has_price, price_data}
 use Rattle.prices.proofs.Sums.{price_at, is_some_of}
 use Rattle.kinds.proofs.addon.AddOnTariff.serves.Goals as goal
 

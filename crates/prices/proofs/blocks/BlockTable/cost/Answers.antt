@@ -1,4 +1,4 @@
-use Rattle.std.proofs.Common.{◌≡◌, ℕ, ◌+◌, ◌≤◌, map, length, get_or, drop, ap, ◌∙◌, arith}
+use Rattle.std.proofs.Common.{◌+◌, map, drop, ap, ◌∙◌, arith}
 use Rattle.prices.specs.Blocks.{block_of, block_cost, blocks_cost}
 use Rattle.prices.proofs.Sums.{seat_sum, sum_more, sum_all, blocks_is}
 use Rattle.prices.proofs.blocks.BlockTable.cost.Goals as goal

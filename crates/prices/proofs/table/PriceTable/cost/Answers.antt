@@ -1,4 +1,4 @@
-use Rattle.std.proofs.Common.{◌≡◌, ℕ, ◌+◌, ◌≤◌, length, get_or, drop, ap, ◌∙◌, arith}
+use Rattle.std.proofs.Common.{◌+◌, ◌≤◌, get_or, drop, ap, ◌∙◌, arith}
 use Rattle.prices.specs.Tables.{price_of, price_data, seat_cost, priced_cost}
 use Rattle.prices.proofs.Sums.{seat_sum, sum_more, sum_all, priced_is, seat_most}
 use Rattle.prices.proofs.table.PriceTable.cost.Goals as goal

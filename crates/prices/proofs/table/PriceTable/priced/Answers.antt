@@ -1,4 +1,4 @@
-use Rattle.std.proofs.Common.{◌≡◌, ◌<◌, ◌≤◌, Bool, List, [], ◌∷◌, ◌++◌, map, length, take, is_some, sym, ap, ◌∙◌, arith}
+use Rattle.std.proofs.Common.{Bool, [], ◌∷◌, ◌++◌, map, take, is_some, sym, ap, ◌∙◌, arith}
 use Rattle.std.proofs.lemmas.List.{length-set, take_more_set, map_more, take_all}
 use Rattle.prices.proofs.Sums.{is_some_price}
 use Rattle.prices.proofs.table.PriceTable.priced.Goals as goal
