@@ -1,29 +1,27 @@
 -- From the list over plain offers to the list over the book, and back. Assumes nothing.
-use Rattle.std.proofs.Common.{◌≡◌, ℕ, zero, suc, ◌+◌, ◌<◌, ◌≤◌, Bool, true, false, ◌&&◌, ◌||◌, eqb, ltb, ◌⊎◌, List, [], ◌∷◌, map, length, get_or, take, Some, None, sym, refl, ap, ◌∙◌, subst, inl, inr, ⊎_elim, arith}
+use Rattle.std.proofs.Common.{◌≡◌, ℕ, zero, suc, ◌<◌, ◌≤◌, true, ◌&&◌, eqb, ltb, List, [], ◌∷◌, map, length, get_or, take, Some, None, sym, refl, ap, ◌∙◌, subst, inl, inr, ⊎_elim, arith}
 use Rattle.std.specs.List.{slice_get}
 use Rattle.std.proofs.lemmas.List.{take-map, length-map}
 use Rattle.std.proofs.lemmas.Bool.{ltb-true, lt-ltb, eqb-true, eq-eqb, and_parts, and_from, or_cases, or_left, or_right, cases_lt}
 use Rattle.tariff.specs.Totals.{Meaning}
-use Rattle.heads.specs.Rules.{HeadData, Namesakes, ShareADay}
-use Rattle.catalogue.specs.Books.{Book, Place, published, place_at, Meeting, Apart as ApartBook}
+use Rattle.catalogue.specs.Books.{Book, Meeting, Apart as ApartBook}
 use Rattle.catalogue.proofs.Places.{none_some, same_some, nth_map, nth_within}
-use Rattle.ordered.specs.Ascending.{ascending}
-use Rattle.ordered.specs.Members.{Among, NoRepeats}
+use Rattle.ordered.specs.Members.{Among}
 use Rattle.ordered.proofs.Members.{among_map, map_among, among_take}
 use Rattle.ordered.proofs.Places.{ascending_nth, nth_ascending, nth_of_map}
 use Rattle.stages.specs.declared.line.Line.{Line}
 use Rattle.stages.specs.Lines.{earlier}
 use Rattle.ranking.specs.declared.queued.Queued.{Queued}
-use Rattle.ranking.specs.Offers.{Offer, offer_at, Fitting, FloorsHold}
-use Rattle.ranking.specs.Totals.{totals, places, different}
+use Rattle.ranking.specs.Offers.{offer_at, Fitting, FloorsHold}
+use Rattle.ranking.specs.Totals.{places}
 use Rattle.ranking.specs.Queues.{sooner, queued_of, queued_at, queue, LinedUp}
-use Rattle.ranking.specs.Costing.{Ends, totals_of, EndsBefore, Taken, Counted}
-use Rattle.ranking.specs.Cheapest.{Cheapest, Ranking}
+use Rattle.ranking.specs.Costing.{totals_of, EndsBefore, Taken, Counted}
+use Rattle.ranking.specs.Cheapest.{Ranking}
 use Rattle.ranking.proofs.Lining.{queue_only, queue_fitting, queue_few}
 use Rattle.ranking.proofs.Fixes.{answer_fixed, lines_costed, counts_bounded}
 use Rattle.listing.specs.Enquiries.{EnquiryData}
 use Rattle.listing.specs.Fitting.{Placed, Fits, total_of}
-use Rattle.listing.specs.Shown.{Shows, ShowsOffer, Earlier, Sooner, TakingEnds, InTurn, Costed, Shown}
+use Rattle.listing.specs.Shown.{Earlier, Sooner, TakingEnds, InTurn, Costed, Shown}
 use Rattle.listing.specs.Tests.{offer_of, offers}
 use Rattle.listing.specs.Theorems.{ListFixed}
 use Rattle.listing.proofs.Fits.{fit_at, fits_fit, fits_total, fits_floor, fits_same}

@@ -1,6 +1,6 @@
 -- The steps of a list, over plain values. Assumes nothing.
-use Rattle.std.proofs.Common.{◌≡◌, ℕ, ◌+◌, ◌-◌, ◌<◌, ◌≤◌, Bool, true, false, ◌&&◌, List, [], ◌∷◌, ◌++◌, map, length, get_or, take, drop, replicate, Some, Ok, Err, Decides, Result, sym, refl, ap, ◌∙◌, subst, arith}
-use Rattle.std.proofs.lemmas.List.{length-take-le, take-take, length-map}
+use Rattle.std.proofs.Common.{◌≡◌, ℕ, ◌+◌, ◌-◌, ◌<◌, ◌≤◌, Bool, true, false, ◌&&◌, List, ◌++◌, length, get_or, take, replicate, Some, Ok, Err, Decides, Result, sym, ap, ◌∙◌, subst, arith}
+use Rattle.std.proofs.lemmas.List.{length-take-le, take-take}
 use Rattle.std.proofs.lemmas.Bool.{and_from, and_left, and_right}
 use Rattle.tariff.specs.Totals.{Meaning, offer_total}
 use Rattle.usage.specs.UsesLists.{UsesList}
@@ -8,25 +8,23 @@ use Rattle.usage.proofs.UsesLaws.{lower_uses}
 use Rattle.heads.specs.Rules.{HeadData}
 use Rattle.catalogue.specs.Books.{Book, published, place_at}
 use Rattle.ordered.specs.Ascending.{ascending}
-use Rattle.ordered.proofs.Members.{among_get_or}
 use Rattle.stages.specs.declared.line.Line.{Line}
 use Rattle.stages.specs.declared.gathering.Gathering.{Gathering}
 use Rattle.stages.specs.declared.refusing.Refusal.{Refusal}
-use Rattle.stages.specs.Lines.{line_of, blank, earlier}
+use Rattle.stages.specs.Lines.{blank, earlier}
 use Rattle.stages.specs.Cutting.{keeps, cut_to}
 use Rattle.stages.specs.Stages.{gathering, put_among, PutsLine}
 use Rattle.ranking.specs.declared.queued.Queued.{Queued}
 use Rattle.ranking.specs.Offers.{Offer, offer_at, Fitting, FloorsHold}
 use Rattle.ranking.specs.Totals.{totals}
-use Rattle.ranking.specs.Queues.{queued_of, queue, LinedUp}
+use Rattle.ranking.specs.Queues.{queued_of, LinedUp}
 use Rattle.ranking.specs.Costing.{Ends, EndsBefore}
 use Rattle.ranking.specs.Steps.{gathered, cut_lines}
 use Rattle.ranking.proofs.Lining.{queue_apart}
 use Rattle.ranking.proofs.Gathers.{gathered_order, ends_from, from_ends}
 use Rattle.listing.specs.Enquiries.{EnquiryData}
-use Rattle.listing.specs.Fitting.{Placed, Fits, total_of}
 use Rattle.listing.specs.Answers.{Written}
-use Rattle.listing.specs.Tests.{asked_for, serves_all, offer_of, offers}
+use Rattle.listing.specs.Tests.{asked_for, serves_all, offers}
 use Rattle.listing.proofs.Fits.{offer_there, fit_at, fits_total, fits_floor}
 
 -- `&s[0..k]` is `take (k - 0)`

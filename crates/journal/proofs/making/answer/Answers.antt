@@ -101,12 +101,12 @@ returns-in-Ok-list g c =
     let ys = c.list.new.memory in
     let n = c.in-Ok-list.shown in
     let k = c.in-Ok-list.costed in
-    let long : length ys ≡ v.len = c.list.auto.memory ∙ (ap length c.deref-mut.ensures.value ∙ sym v.ok.0) in
+    let long : length ys ≡ v.len = c.list.auto.memory ∙ (ap length c.deref_mut.ensures.value ∙ sym v.ok.0) in
     let back : vec_items (with_items v ys) ≡ ys = with_items_is v ys long in
     let a : AnswerData g.row.T.Denot = shown n k (vec_items (with_items v ys)) in
     let given = c.in-Ok-list.ensures.answered in
     let said : Answered (mean g) b (list q (vec_items v)) (shown n k ys) b =
-    subst (λ xs. Answered (mean g) b (list q xs) (shown n k ys) b) c.deref-mut.ensures.value (listed given.0 given.1) in
+    subst (λ xs. Answered (mean g) b (list q xs) (shown n k ys) b) c.deref_mut.ensures.value (listed given.0 given.1) in
     let h : Answered (mean g) b (call_data c.args.call) a b =
     subst (λ (x : Call g.row.T.Denot). Answered (mean g) b (call_data x) a b) (sym c.in-List.is)
     (subst (λ zs. Answered (mean g) b (list q (vec_items v)) (shown n k zs) b) (sym back) said) in
@@ -121,12 +121,12 @@ returns-in-Err-list g c =
     let v = c.in-List.memory in
     let ys = c.list.new.memory in
     let row = list_row c.in-Err-list.refusal in
-    let long : length ys ≡ v.len = c.list.auto.memory ∙ (ap length c.deref-mut.ensures.value ∙ sym v.ok.0) in
+    let long : length ys ≡ v.len = c.list.auto.memory ∙ (ap length c.deref_mut.ensures.value ∙ sym v.ok.0) in
     let given = c.in-Err-list.ensures.answered in
-    let back : vec_items (with_items v ys) ≡ vec_items v = with_items_is v ys long ∙ (given.1 ∙ c.deref-mut.ensures.value) in
+    let back : vec_items (with_items v ys) ≡ vec_items v = with_items_is v ys long ∙ (given.1 ∙ c.deref_mut.ensures.value) in
     let a : AnswerData g.row.T.Denot = refused row (list q (vec_items (with_items v ys))) in
     let said : Answered (mean g) b (list q (vec_items v)) (refused row (list q (vec_items v))) b =
-    subst (λ xs. Answered (mean g) b (list q xs) (refused row (list q xs)) b) c.deref-mut.ensures.value (list_declined given.0) in
+    subst (λ xs. Answered (mean g) b (list q xs) (refused row (list q xs)) b) c.deref_mut.ensures.value (list_declined given.0) in
     let h : Answered (mean g) b (call_data c.args.call) a b =
     subst (λ (x : Call g.row.T.Denot). Answered (mean g) b (call_data x) a b) (sym c.in-List.is)
     (subst (λ zs. Answered (mean g) b (list q (vec_items v)) (refused row (list q zs)) b) (sym back) said) in

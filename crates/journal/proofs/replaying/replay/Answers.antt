@@ -42,7 +42,7 @@ loop-call-init g c =
     let laws = book_laws g.row.T.Denot in
     let b = held c.in-Ok.catalogue in
     let n = vec_len c.args.given.slots in
-    let items = c.into-iter-call-iterator.ensures.into-iter-gives.0 in
+    let items = c.into_iter-call-iterator.ensures.into_iter_gives.0 in
     none_made (mean g) (length b) _ c.args.given.answers b
     (none_opened (mean g) (length b) b n (laws.opened_long n) c.in-Ok.ensures.1 refl)
     (omega (arith, ap length items, c.args.given.calls.ok.0))
@@ -50,9 +50,9 @@ loop-call-init g c =
 pub loop-call-preserved : goal.loop-call-preserved
 unfolding mean
 loop-call-preserved g c =
-    let p = c.push-reserved.ensures in
+    let p = c.push_reserved.ensures in
     one_more (mean g) (length (held c.in-Ok.catalogue)) c.loop-call.yielded (into_iter_items c.loop-call.call-iterator) (into_iter_items c.next.new.self) _
-    c.args.given.answers c.loop-call.answers c.push-reserved.new.self (held c.loop-call.catalogue) (held c.answer-said.new.catalogue) c.in-Some.call c.answer-said.result
+    c.args.given.answers c.loop-call.answers c.push_reserved.new.self (held c.loop-call.catalogue) (held c.answer-said.new.catalogue) c.in-Some.call c.answer-said.result
     c.loop-call.invariant c.in-Some.ensures.steps.0 c.answer-said.ensures.answered p.items p.len p.capacity
 
 pub returns : goal.returns
@@ -66,7 +66,7 @@ returns g c =
     let so = c.loop-call.invariant in
     let rest = c.loop-call.call-iterator.rest.ok in
     let all = all_made (mean g) (length b) c.loop-call.yielded (into_iter_items c.loop-call.call-iterator) _ c.args.given.answers c.loop-call.answers (held c.loop-call.catalogue) so
-    (sym rest.0 ∙ c.in-None.ensures.steps.0) ∙ c.into-iter-call-iterator.ensures.into-iter-gives.0 in
+    (sym rest.0 ∙ c.in-None.ensures.steps.0) ∙ c.into_iter-call-iterator.ensures.into_iter_gives.0 in
     record {
       replays = (
         omega arith,

@@ -1,4 +1,4 @@
-use Rattle.std.proofs.Common.{sym, ◌∙◌}
+use Rattle.std.proofs.Common.{◌∙◌}
 use Rattle.tariff.specs.Totals.{Meaning, meaning}
 use Rattle.heads.specs.Heads.{head_data}
 use Rattle.catalogue.specs.Held.{held}
@@ -7,7 +7,7 @@ use Rattle.listing.proofs.Fits.{none_published}
 use Rattle.listing.proofs.Steps.{offer_fits, offer_unserved, offer_unasked, offer_floor}
 use Rattle.listing.proofs.fitting.floor_at.Given as given
 use Rattle.listing.proofs.fitting.floor_at.Goals as goal
-use Rattle.listing.proofs.fitting.floor_at.Goals.{else-asks_for-via-then-asks-for+else-serves-uses, else-asks_for-via-else-asks_for}
+use Rattle.listing.proofs.fitting.floor_at.Goals.{else-asks_for-via-then-asks_for+else-serves_uses, else-asks_for-via-else-asks_for}
 
 mean : (g : given.Over) → Meaning g.row.T.Denot
 mean g = meaning g.T.Tariff.served g.T.Tariff.drawn g.T.Tariff.charged g.T.Tariff.floor
@@ -33,7 +33,7 @@ returns-else-asks_for g c =
     let t = c.in-Some.tariff.now in
     let us = c.args.uses.now.parts in
     elim c.else-asks_for.branch [
-      | else-asks_for-via-then-asks-for+else-serves-uses w ↦ offer_unserved (mean g) q b c.args.place h t us c.requires c.in-Some.ensures w.if-serves_uses.ensures
+      | else-asks_for-via-then-asks_for+else-serves_uses w ↦ offer_unserved (mean g) q b c.args.place h t us c.requires c.in-Some.ensures w.if-serves_uses.ensures
       | else-asks_for-via-else-asks_for w ↦ offer_unasked (mean g) q b c.args.place h t us c.requires c.in-Some.ensures w.if-asks_for.ensures
     ]
 

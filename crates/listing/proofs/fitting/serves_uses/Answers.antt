@@ -1,4 +1,4 @@
-use Rattle.std.proofs.Common.{◌≡◌, ◌<◌, ◌≤◌, true, false, length, get_or, sym, ap, ◌∙◌, arith}
+use Rattle.std.proofs.Common.{◌≡◌, ◌<◌, true, get_or, sym, ap, ◌∙◌, arith}
 use Rattle.listing.specs.Tests.{serves_all}
 use Rattle.listing.proofs.Fits.{serves_hit, serves_skip, serves_end}
 use Rattle.listing.proofs.fitting.serves_uses.Goals as goal

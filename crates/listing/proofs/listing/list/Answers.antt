@@ -1,4 +1,4 @@
-use Rattle.std.proofs.Common.{◌≡◌, ℕ, ◌-◌, ◌≤◌, length, take, sym, refl, ap, ◌∙◌, subst, arith}
+use Rattle.std.proofs.Common.{◌≡◌, ◌-◌, ◌≤◌, length, take, sym, refl, ap, ◌∙◌, subst, arith}
 use Rattle.std.proofs.lemmas.Bool.{both_ways}
 use Rattle.tariff.specs.Totals.{Meaning, meaning}
 use Rattle.usage.specs.UsesLists.{UsesList}
@@ -6,12 +6,11 @@ use Rattle.catalogue.specs.Books.{Book}
 use Rattle.catalogue.specs.Held.{held}
 use Rattle.stages.specs.declared.gathering.Gathering.{Gathering}
 use Rattle.stages.specs.Cutting.{keeps}
-use Rattle.stages.specs.Stages.{held_lines}
 use Rattle.ranking.specs.Queues.{queue}
 use Rattle.ranking.specs.Costing.{Taken}
 use Rattle.ranking.specs.Steps.{gathered, cut_lines}
 use Rattle.ranking.proofs.Meets.{steps_show}
-use Rattle.listing.specs.Enquiries.{EnquiryData, enquiry_data, SoundValues}
+use Rattle.listing.specs.Enquiries.{EnquiryData, enquiry_data}
 use Rattle.listing.specs.Shown.{Shown}
 use Rattle.listing.specs.Theorems.{LinesCosted}
 use Rattle.listing.specs.Tests.{sound_values, offers}

@@ -1,4 +1,4 @@
-use Rattle.std.proofs.Common.{◌≡◌, ℕ, ◌+◌, ◌-◌, ◌<◌, ◌≤◌, Bool, true, false, length, get_or, take, Decides, sym, refl, ap, ◌∙◌, subst, inr, arith, below_more}
+use Rattle.std.proofs.Common.{◌≡◌, ℕ, ◌+◌, ◌<◌, true, false, length, get_or, take, Decides, sym, refl, ap, ◌∙◌, subst, inr, arith, below_more}
 use Rattle.std.proofs.lemmas.Bool.{false≢true}
 use Rattle.tariff.specs.Totals.{Meaning, meaning}
 use Rattle.catalogue.specs.Held.{held}
@@ -8,7 +8,7 @@ use Rattle.stages.specs.declared.gathering.Gathering.{Gathering}
 use Rattle.stages.specs.Lines.{line_of, earlier}
 use Rattle.stages.specs.Stages.{gathering, put_among}
 use Rattle.ranking.specs.Totals.{totals}
-use Rattle.ranking.specs.Queues.{queued_of, queue, LinedUp}
+use Rattle.ranking.specs.Queues.{queued_of, LinedUp}
 use Rattle.ranking.specs.Costing.{Ends, EndsBefore, Taken}
 use Rattle.ranking.specs.Steps.{gathered}
 use Rattle.ranking.proofs.Lining.{queue_is}

@@ -1,15 +1,15 @@
-use Rattle.std.proofs.Common.{◌≡◌, ◌+◌, ◌<◌, ◌≤◌, length, take, sym, refl, ap, ◌∙◌, subst, arith}
+use Rattle.std.proofs.Common.{◌≡◌, ◌+◌, ◌<◌, length, take, sym, ap, ◌∙◌, arith}
 use Rattle.std.proofs.lemmas.List.{length-map}
 use Rattle.tariff.specs.Totals.{Meaning, meaning}
 use Rattle.catalogue.specs.Held.{held}
 use Rattle.ordered.proofs.Moves.{puts_ok, puts_err}
-use Rattle.ranking.specs.Queues.{sooner, queued_of, queue, queue_below}
+use Rattle.ranking.specs.Queues.{sooner, queue_below}
 use Rattle.ranking.proofs.Lining.{queue_put_memory, queue_skip}
 use Rattle.listing.specs.Enquiries.{enquiry_data}
 use Rattle.listing.specs.Tests.{offer_of, offers}
 use Rattle.listing.proofs.queueing.line_up.Given as given
 use Rattle.listing.proofs.queueing.line_up.Goals as goal
-use Rattle.listing.proofs.queueing.line_up.Goals.{in-Some+then-is-ok, in-Some+else-is-ok, in_default}
+use Rattle.listing.proofs.queueing.line_up.Goals.{in-Some+then-is_ok, in-Some+else-is_ok, in_default}
 
 mean : (g : given.Over) → Meaning g.row.T.Denot
 mean g = meaning g.T.Tariff.served g.T.Tariff.drawn g.T.Tariff.charged g.T.Tariff.floor
@@ -25,7 +25,7 @@ loop-place-preserved g c =
     let many = c.places-place-end.ensures.is in
     let room : n < length xs = omega (arith, inv.0, inv.1, c.requires.room, c.loop-place-test.true) in
     elim c.match-floor_at.branch [
-      | in-Some+then-is-ok w ↦
+      | in-Some+then-is_ok w ↦
           let put = puts_ok sooner _ n xs _ w.put.result w.put.ensures (sym w.is_ok.ensures.value ∙ w.if-is_ok.true) in
           let f = w.in-Some.ensures in (
             omega (arith, w.count-is, inv.0),
@@ -33,7 +33,7 @@ loop-place-preserved g c =
             ap (λ k. take k c.match-floor_at.waiting) w.count-is
                 ∙ (ap (take (n + 1)) w.waiting-is ∙ queue_put_memory os p n w.in-Some.floor xs w.put.new.memory room inv.2 f.0 f.1 put.1),
           )
-      | in-Some+else-is-ok w ↦
+      | in-Some+else-is_ok w ↦
           let put = puts_err sooner _ n xs _ w.put.result w.put.ensures (sym w.is_ok.ensures.value ∙ w.if-is_ok.false) in
           absurd (omega (arith, put.0))
       | in_default w ↦ (
