@@ -1,12 +1,12 @@
 -- The worked examples of namesakes. Assumes nothing.
-use Rattle.std.proofs.Common.{◌≡◌, ℕ, zero, suc, ◌<◌, ◌≤◌, List, [], ◌∷◌, Some, None, Option, sym, refl, ap, ◌∙◌, subst, arith}
+use Rattle.std.proofs.Common.{◌≡◌, ℕ, zero, suc, Some, None, refl, ap, arith}
 use Rattle.refusal.specs.Rows.{RowData}
 use Rattle.heads.specs.Rules.{HeadData}
-use Rattle.catalogue.specs.Books.{Book, Place, empty, in_work, published, place_at, Rival, Lowest}
+use Rattle.catalogue.specs.Books.{empty, in_work, published, Rival, Lowest}
 use Rattle.catalogue.specs.Table.{Higher}
 use Rattle.catalogue.specs.Calls.{publish, Row, no_such_place, publish_empty, publish_published, publish_shares_day, Declined, NoCause}
 use Rattle.catalogue.specs.Refusals.{shares_day}
-use Rattle.catalogue.proofs.Places.{none_some, same_some}
+use Rattle.catalogue.proofs.Places.{none_some}
 use Rattle.examples.specs.Lists.{days, namesakes}
 
 -- a place in work is neither empty nor published

@@ -1,11 +1,11 @@
 -- The worked examples of lists. Assumes nothing.
-use Rattle.std.proofs.Common.{◌≡◌, ℕ, zero, suc, ◌+◌, ◌<◌, ◌≤◌, true, false, ◌⊎◌, List, [], ◌∷◌, map, take, Some, None, sym, refl, ap, ◌∙◌, subst, inl, inr, ⊎_elim, arith}
+use Rattle.std.proofs.Common.{◌≡◌, ℕ, zero, suc, ◌+◌, ◌<◌, ◌≤◌, List, [], ◌∷◌, take, Some, None, sym, refl, ap, ◌∙◌, inl, inr, ⊎_elim, arith}
 use Rattle.std.proofs.lemmas.Bool.{false≢true}
-use Rattle.catalogue.specs.Books.{Book, Place, published, place_at, Meeting, Apart}
+use Rattle.catalogue.specs.Books.{published, place_at, Apart}
 use Rattle.catalogue.proofs.Places.{none_some, same_some}
 use Rattle.heads.specs.Rules.{HeadData}
 use Rattle.stages.specs.Lines.{line_of}
-use Rattle.ranking.specs.Offers.{Offer, Fitting, offer_at, FloorsHold}
+use Rattle.ranking.specs.Offers.{Offer, FloorsHold}
 use Rattle.ranking.specs.Queues.{queue}
 use Rattle.ordered.specs.Members.{Among}
 use Rattle.ranking.specs.Costing.{Taken, EndsBefore}

@@ -1,13 +1,9 @@
 -- Worked examples of lists, and of namesakes. Assumes nothing.
-use Rattle.std.specs.Prelude.{ℕ, zero, suc, true, List, [], ◌∷◌, map, replicate}
-use Rattle.refusal.specs.Rows.{RowData}
+use Rattle.std.specs.Prelude.{ℕ, suc, true, List, [], ◌∷◌, replicate}
 use Rattle.tariff.specs.Totals.{Meaning}
 use Rattle.heads.specs.Rules.{HeadData, head_of}
-use Rattle.catalogue.specs.Books.{Book, Place, in_work, published}
-use Rattle.catalogue.specs.Calls.{Change, publish, Declined, NoCause}
-use Rattle.catalogue.specs.Refusals.{shares_day}
+use Rattle.catalogue.specs.Books.{Book, in_work, published}
 use Rattle.stages.specs.declared.line.Line.{Line}
-use Rattle.stages.specs.Lines.{line_of}
 use Rattle.listing.specs.Enquiries.{EnquiryData}
 use Rattle.listing.specs.Shown.{Shown}
 

@@ -1,6 +1,6 @@
 -- The worked examples, one field each. Assumes nothing.
 use Rattle.std.specs.Prelude.{◌≡◌, ℕ, ◌*◌, ◌/◌, true, List, [], ◌∷◌, replicate, Some, None}
-use Rattle.usage.specs.Drawing.{draws, fallen, drawn}
+use Rattle.usage.specs.Drawing.{draws, drawn}
 use Rattle.tariff.specs.Totals.{offer_total}
 use Rattle.prices.specs.Tables.{TableData, empty_table}
 use Rattle.prices.specs.Blocks.{BlockData, started}

@@ -1,12 +1,12 @@
 -- Where a replay stands between two calls. Assumes nothing.
 use Rattle.std.proofs.Common.{◌≡◌, ℕ, ◌+◌, ◌≤◌, List, [], ◌∷◌, ◌++◌, map, length, vec_items, vec_len, vec_capacity, Vec, sym, refl, ap, ◌∙◌, subst, arith}
 use Rattle.std.specs.declared.alloc.Global.{Global}
-use Rattle.std.proofs.lemmas.List.{append-nil, append_assoc, nil_from_length, map-append, length-append}
+use Rattle.std.proofs.lemmas.List.{append-nil, append_assoc, nil_from_length, map-append}
 use Rattle.tariff.specs.Totals.{Meaning}
 use Rattle.catalogue.specs.Books.{Book, all_empty}
 use Rattle.journal.specs.declared.call.Call.{Call}
 use Rattle.journal.specs.declared.call.Answer.{Answer}
-use Rattle.journal.specs.Calls.{CallData, AnswerData, call_data, answer_data}
+use Rattle.journal.specs.Calls.{call_data, answer_data}
 use Rattle.journal.specs.Runs.{Answered, Run, opened, then}
 
 -- the calls made so far are a run that leads to the book held, those made and those to come are all, and there is room for the rest

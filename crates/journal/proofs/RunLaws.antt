@@ -1,9 +1,9 @@
 -- What holds of every run. Assumes nothing.
-use Rattle.std.proofs.Common.{◌≡◌, ℕ, ◌+◌, ◌-◌, ◌⊎◌, List, [], ◌∷◌, ◌++◌, length, replicate, Some, None, Option, sym, refl, ap, ◌∙◌, subst, inl, inr, ⊎_elim, arith}
+use Rattle.std.proofs.Common.{◌≡◌, ℕ, ◌+◌, ◌-◌, List, [], ◌∷◌, ◌++◌, length, replicate, Some, None, sym, refl, ap, ◌∙◌, subst, inl, inr, arith}
 use Rattle.std.proofs.lemmas.List.{append-nil, length_push, same_from_push}
 use Rattle.refusal.specs.Rows.{RowData}
 use Rattle.tariff.specs.Totals.{Meaning}
-use Rattle.catalogue.specs.Books.{Book, all_empty, Apart, SoundBook}
+use Rattle.catalogue.specs.Books.{Book, Apart, SoundBook}
 use Rattle.catalogue.specs.Calls.{Change, Judged, DayFits}
 use Rattle.catalogue.specs.Calls as book
 use Rattle.catalogue.specs.Laws.{BookLaws}

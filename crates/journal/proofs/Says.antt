@@ -1,5 +1,5 @@
 -- What one call answers, from what the catalogue and the list say. Assumes nothing.
-use Rattle.std.proofs.Common.{◌≡◌, ℕ, List, [], ◌∷◌, ◌++◌, length, Some, None, Ok, Err, Option, Result, sym, refl, ap, ◌∙◌, subst, MatchResult}
+use Rattle.std.proofs.Common.{◌≡◌, Ok, Err, Option, Result, MatchResult}
 use Rattle.refusal.specs.Rows.{RowData}
 use Rattle.catalogue.specs.Answers.{told}
 use Rattle.catalogue.specs.declared.memory.Catalogue.{Catalogue}
@@ -9,8 +9,8 @@ use Rattle.tariff.specs.Totals.{Meaning}
 use Rattle.catalogue.specs.Books.{Book}
 use Rattle.catalogue.specs.Calls.{Change, Judged}
 use Rattle.catalogue.specs.Calls as book
-use Rattle.journal.specs.Calls.{CallData, change, list, AnswerData, done, shown, refused, said_to}
-use Rattle.journal.specs.Runs.{Answered, changed, listed, declined, list_declined, Run, then, Extends}
+use Rattle.journal.specs.Calls.{CallData, change, AnswerData, said_to}
+use Rattle.journal.specs.Runs.{Answered, changed, declined, then, Extends}
 
 module _ {T : Type 0} (m : Meaning T) where
   -- a change is answered as the book judges it

@@ -1,5 +1,5 @@
 -- What a replay answers. Assumes nothing.
-use Rattle.std.specs.Prelude.{◌≡◌, ℕ, ◌+◌, ◌≤◌, List, ◌++◌, map, vec_items, vec_len, vec_capacity, Result, MatchResult}
+use Rattle.std.specs.Prelude.{◌≡◌, ◌+◌, ◌≤◌, List, ◌++◌, map, vec_items, vec_len, vec_capacity, Result, MatchResult}
 use Rattle.tariff.specs.Totals.{Meaning}
 use Rattle.refusal.specs.Rows.{bare}
 use Rattle.catalogue.specs.Books.{Openable, Apart, SoundBook}

@@ -1,21 +1,17 @@
-use Rattle.std.proofs.Common.{◌≡◌, List, length, vec_items, vec_len, sym, refl, ap, ◌∙◌, subst}
+use Rattle.std.proofs.Common.{◌≡◌, length, vec_items, sym, refl, ap, ◌∙◌, subst}
 use Rattle.std.specs.Vec.{with_items}
 use Rattle.std.proofs.lemmas.List.{with_items_is}
 use Rattle.tariff.specs.Totals.{Meaning, meaning}
 use Rattle.heads.specs.Heads.{raw_data}
-use Rattle.catalogue.specs.Books.{Book}
 use Rattle.catalogue.specs.Calls.{enter, publish, amend, delete}
 use Rattle.catalogue.specs.Answers.{told}
 use Rattle.catalogue.specs.Refusals.{row_of as catalogue_row}
 use Rattle.catalogue.specs.Held.{held}
 use Rattle.listing.specs.Refusals.{row_of as list_row}
 use Rattle.listing.specs.Enquiries.{enquiry_data}
-use Rattle.listing.specs.Answers.{ListAnswered, ListShown}
-use Rattle.listing.specs.Table.{ListNoCause, ListDeclined}
-use Rattle.stages.specs.declared.line.Line.{Line}
 use Rattle.journal.specs.declared.call.Call.{Call}
-use Rattle.journal.specs.Calls.{CallData, change, list, AnswerData, done, shown, refused, said_to, call_data, answer_data}
-use Rattle.journal.specs.Runs.{Answered, listed, list_declined, Extends}
+use Rattle.journal.specs.Calls.{change, list, AnswerData, done, shown, refused, call_data, answer_data}
+use Rattle.journal.specs.Runs.{Answered, listed, list_declined}
 use Rattle.journal.specs.Stores.{Stored}
 use Rattle.journal.proofs.Says.{judged_says, stored_says, extends_by}
 use Rattle.journal.proofs.making.answer.Given as given

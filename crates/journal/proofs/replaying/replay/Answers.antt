@@ -1,14 +1,13 @@
-use Rattle.std.proofs.Common.{◌≡◌, ℕ, ◌+◌, ◌≤◌, List, [], map, length, vec_items, vec_len, vec_capacity, sym, refl, ap, ◌∙◌, subst, arith}
+use Rattle.std.proofs.Common.{◌≡◌, map, length, vec_items, vec_len, sym, refl, ap, ◌∙◌, subst, arith}
 use Rattle.std.specs.Vec.Iter.{into_iter_items}
 use Rattle.tariff.specs.Totals.{Meaning, meaning}
-use Rattle.catalogue.specs.Books.{all_empty}
 use Rattle.catalogue.specs.Held.{held}
 use Rattle.catalogue.specs.Refusals.{row_of}
 use Rattle.catalogue.proofs.Holding.{held_sound}
 use Rattle.catalogue.proofs.OneAnswer.{book_laws}
 use Rattle.journal.specs.Calls.{call_data, answer_data}
 use Rattle.journal.specs.Runs.{Run}
-use Rattle.journal.proofs.Loops.{SoFar, none_made, none_opened, one_more, all_made}
+use Rattle.journal.proofs.Loops.{none_made, none_opened, one_more, all_made}
 use Rattle.journal.proofs.RunLaws.{run_laws}
 use Rattle.journal.proofs.replaying.replay.Given as given
 use Rattle.journal.proofs.replaying.replay.Goals as goal

@@ -1,9 +1,7 @@
-use Rattle.std.proofs.Common.{◌≡◌, ◌+◌, ◌≤◌, List, ◌++◌, map, length, vec_items, vec_len, vec_capacity}
+use Rattle.std.proofs.Common.{length}
 use Rattle.std.specs.Vec.Iter.{into_iter_items}
 use Rattle.tariff.specs.Totals.{meaning}
 use Rattle.catalogue.specs.Held.{held}
-use Rattle.journal.specs.Calls.{AnswerData, call_data, answer_data}
-use Rattle.journal.specs.Runs.{Run}
 use Rattle.journal.proofs.Loops.{SoFar}
 use Rattle.journal.proofs.replaying.replay.Given as goal
 
