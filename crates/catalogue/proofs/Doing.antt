@@ -12,7 +12,7 @@ use Rattle.catalogue.specs.Calls.{Change, enter, publish, amend, delete, NoCause
 use Rattle.catalogue.specs.Refusals.{shares_day}
 use Rattle.catalogue.specs.Slots.{slot_data, book_of}
 use Rattle.catalogue.specs.Search.{bars_slot, first_other}
-use Rattle.catalogue.specs.Held.{memory, held}
+use Rattle.catalogue.specs.Held.{held}
 use Rattle.catalogue.proofs.Searching.{clash_none, clash_some}
 use Rattle.catalogue.proofs.Judging.{enter_at_empty, enter_at_work, publish_free, publish_clash, amend_work, amend_free, amend_clash, delete_work}
 use Rattle.catalogue.proofs.BookLaws.{apart_kept}

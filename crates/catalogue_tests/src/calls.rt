@@ -57,7 +57,7 @@ fn enter(rt: HostRuntime) -> Result<(), Fail> {
         entering(&mut catalogue, 0, &good),
         entering(&mut catalogue, 1, &good),
     ];
-    check_told(&rt, &told, &[10, 10, 12, 0, 0, 0, 12, 200, 0])
+    check_told(&told, &[10, 10, 12, 0, 0, 0, 12, 200, 0])
 }
 
 #[test]
@@ -92,7 +92,7 @@ fn publish(rt: HostRuntime) -> Result<(), Fail> {
         last_at(&catalogue, 1),
         last_at(&catalogue, 2),
     ];
-    check_told(&rt, &told, &[10, 16, 0, 0, 0, 200, 0, 20, 0])?;
+    check_told(&told, &[10, 16, 0, 0, 0, 200, 0, 20, 0])?;
     assert_eq!(rt; tariff_at(&catalogue, 1, 0), 5);
     Ok(())
 }
@@ -114,7 +114,7 @@ fn amend(rt: HostRuntime) -> Result<(), Fail> {
         number(catalogue.amend(0, 65_535)),
         last_at(&catalogue, 0),
     ];
-    check_told(&rt, &told, &[10, 16, 0, 14, 0, 0, 10, 14, 0, 65_535])
+    check_told(&told, &[10, 16, 0, 14, 0, 0, 10, 14, 0, 65_535])
 }
 
 #[test]
@@ -133,7 +133,7 @@ fn delete(rt: HostRuntime) -> Result<(), Fail> {
         number(catalogue.delete(0)),
         last_at(&catalogue, 0),
     ];
-    check_told(&rt, &told, &[10, 16, 0, 0, 16, 0, 0, 18, 20])
+    check_told(&told, &[10, 16, 0, 0, 16, 0, 0, 18, 20])
 }
 
 #[test]
@@ -147,7 +147,7 @@ fn the_last_of_256_places(rt: HostRuntime) -> Result<(), Fail> {
         number(catalogue.publish(255)),
         last_at(&catalogue, 255),
     ];
-    check_told(&rt, &told, &[10, 0, 0, 20])?;
+    check_told(&told, &[10, 0, 0, 20])?;
     assert_eq!(rt; catalogue.places(), 256);
     Ok(())
 }

@@ -14,7 +14,7 @@ fn named(text: &[u8]) -> u16 {
 #[test]
 fn lengths_of_names(rt: HostRuntime) -> Result<(), Fail> {
     let told = [named(&[]), named(&[65]), named(&[65; 24]), named(&[65; 25])];
-    check_told(&rt, &told, &[0, 1, 1, 0])
+    check_told(&told, &[0, 1, 1, 0])
 }
 
 #[test]
@@ -27,7 +27,7 @@ fn bytes_of_names(rt: HostRuntime) -> Result<(), Fail> {
         named(&[65, 65, 31]),
         named(&[127, 65, 65]),
     ];
-    check_told(&rt, &told, &[0, 1, 1, 0, 0, 0])
+    check_told(&told, &[0, 1, 1, 0, 0, 0])
 }
 
 // 1 where the values of a head keep the rules, else 0.
@@ -56,7 +56,7 @@ fn days(rt: HostRuntime) -> Result<(), Fail> {
         with_days(&mut raw, 10, 9),
         with_days(&mut raw, 10, 10),
     ];
-    check_told(&rt, &told, &[1, 1, 1, 0, 0, 1])
+    check_told(&told, &[1, 1, 1, 0, 0, 1])
 }
 
 // 1 where a head with this network, contract and term keeps the rules, else 0.
@@ -79,7 +79,7 @@ fn codes(rt: HostRuntime) -> Result<(), Fail> {
         with_codes(&mut raw, 2, 2, 0),
         with_codes(&mut raw, 2, 3, 0),
     ];
-    check_told(&rt, &told, &[0, 1, 1, 0, 0, 1, 0])
+    check_told(&told, &[0, 1, 1, 0, 0, 1, 0])
 }
 
 #[test]
@@ -92,7 +92,7 @@ fn terms_and_cards(rt: HostRuntime) -> Result<(), Fail> {
         with_codes(&mut raw, 1, 2, 0),
         with_codes(&mut raw, 2, 2, 1),
     ];
-    check_told(&rt, &told, &[1, 0, 0, 0])
+    check_told(&told, &[1, 0, 0, 0])
 }
 
 // The head of these values, or one that stands for none.
@@ -114,8 +114,8 @@ fn values_come_back(rt: HostRuntime) -> Result<(), Fail> {
         head.first(),
         head.last(),
     ];
-    check_told(&rt, &told, &[7, 2, 1, 0, 10, 20])?;
-    assert!(rt; head.name() == &[126]);
+    check_told(&told, &[7, 2, 1, 0, 10, 20])?;
+    assert!(rt; head.name() == [126].as_slice());
     Ok(())
 }
 

@@ -2,7 +2,6 @@
 use catalogue::{Catalogue, Slot};
 use heads::RawHead;
 use std::alloc::{AllocError, Global};
-use std::process::Abort;
 use std::test::Fail;
 
 /// A mobile subscription of supplier 7 without a term, named by one letter.
@@ -37,12 +36,20 @@ pub fn opened<T: Clone + Drop>(
     }
 }
 
+/// Fails with these words unless the condition holds.
+pub fn check(holds: bool, words: &str) -> Result<(), Fail> {
+    if holds { Ok(()) } else { Err(Fail::new(words)) }
+}
+
 /// Whether a test was told these numbers.
-pub fn check_told(rt: &impl Abort, told: &[u16], wanted: &[u16]) -> Result<(), Fail> {
-    assert_eq!(rt; told.len(), wanted.len());
+pub fn check_told(told: &[u16], wanted: &[u16]) -> Result<(), Fail> {
+    check(told.len() == wanted.len(), "another count of numbers")?;
     for i in 0..told.len() {
         if i < wanted.len() {
-            assert_eq!(rt; told[i], wanted[i], "at {i}");
+            let (number, other) = (told[i], wanted[i]);
+            if number != other {
+                return Err(Fail::new(format_args!("{number} and not {other} at {i}")));
+            }
         }
     }
     Ok(())

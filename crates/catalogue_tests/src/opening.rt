@@ -30,7 +30,7 @@ fn places(rt: HostRuntime) -> Result<(), Fail> {
         opening(heap, 256, 256)?,
         opening(heap, 257, 257)?,
     ];
-    check_told(&rt, &told, &[8, 0, 0, 8])
+    check_told(&told, &[8, 0, 0, 8])
 }
 
 #[test]
@@ -41,5 +41,5 @@ fn unequal_memories(rt: HostRuntime) -> Result<(), Fail> {
         opening(heap, 1, 2)?,
         opening(heap, 1, 0)?,
     ];
-    check_told(&rt, &told, &[8, 8, 8])
+    check_told(&told, &[8, 8, 8])
 }

@@ -1,7 +1,9 @@
 //! Add-ons: a tariff over any tariff.
 ghost use Rattle.prices.specs.Tables.{table_data, priced_seats};
 ghost use Rattle.kinds.specs.Meanings.{addon_served, addon_drawn, addon_charge, addon_floor};
-ghost use Rattle.std.proofs.Common.{◌∙◌, arith, rules};
+ghost use Rattle.std.proofs.Common.{◌∙◌};
+ghost use Rattle.std.proofs.Math.Nat.{le_trans};
+ghost use Rattle.kinds.specs.Laws.{capped_most, addon_above};
 ghost use Rattle.usage.proofs.GroupLaws.{all_keeps, all_lowers};
 ghost use Rattle.usage.specs.Held.{held};
 ghost use Rattle.usage.proofs.UsesLaws.{cleared_uses};
@@ -31,14 +33,11 @@ impl<T: Tariff> Tariff for AddOn<T> {
 
     ghost keeps = { λ t us u. all_keeps (held t.table.groups) (T.Tariff.drawn t.below us) ∙ T.Tariff.keeps t.below us u };
 
-    ghost lowers = { λ t us u k. omega (arith, all_lowers (held t.table.groups) (T.Tariff.drawn t.below us) k, T.Tariff.lowers t.below us u k) };
+    ghost lowers = { λ t us u k. le_trans (all_lowers (held t.table.groups) (T.Tariff.drawn t.below us) k) (T.Tariff.lowers t.below us u k) };
 
-    ghost capped = { Prim.search rules };
+    ghost capped = { λ t us u. capped_most _ };
 
-    // the floor below is no more than the charge below for the list with the priced seats at 0
-    ghost above = { λ t us u.
-        let rest = cleared_uses (priced_seats (table_data t.table).prices) us u in
-        omega (arith, T.Tariff.above t.below _ rest) };
+    ghost above = { λ t us u. addon_above (table_data t.table) (T.Tariff.charged t.below) (T.Tariff.floor t.below) us (T.Tariff.above t.below _ (cleared_uses (priced_seats (table_data t.table).prices) us u)) };
 
     fn serves(&self, seat: usize) -> bool {
         match self.table.price(seat) {

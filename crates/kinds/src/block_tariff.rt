@@ -1,7 +1,9 @@
 //! Block tariffs: use is paid by the started block.
 ghost use Rattle.prices.specs.Blocks.{blocks_data};
 ghost use Rattle.kinds.specs.Meanings.{block_served, block_charge, block_floor};
-ghost use Rattle.std.proofs.Common.{rules};
+ghost use Rattle.std.proofs.Common.{refl};
+ghost use Rattle.std.proofs.Math.Nat.{le_refl};
+ghost use Rattle.kinds.specs.Laws.{capped_most, block_above};
 
 use crate::plan::MOST_TOTAL;
 use prices::{BlockTable, FixedSum};
@@ -24,13 +26,13 @@ impl Tariff for BlockTariff {
 
     ghost floor = { λ t. block_floor t.fixed.hundredths };
 
-    ghost keeps = { Prim.search rules };
+    ghost keeps = { λ t us u. refl };
 
-    ghost lowers = { Prim.search rules };
+    ghost lowers = { λ t us u k. le_refl _ };
 
-    ghost capped = { Prim.search rules };
+    ghost capped = { λ t us u. capped_most _ };
 
-    ghost above = { Prim.search rules };
+    ghost above = { λ t us u. block_above t.fixed.hundredths (blocks_data t.table) us t.fixed.low };
 
     fn serves(&self, seat: usize) -> bool {
         self.table.block(seat).is_some()

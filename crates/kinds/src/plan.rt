@@ -3,7 +3,7 @@ ghost use Rattle.prices.specs.Tables.{table_data};
 ghost use Rattle.kinds.specs.Meanings.{plan_served, plan_drawn, plan_charge, plan_floor};
 ghost use Rattle.usage.proofs.GroupLaws.{all_keeps, all_lowers};
 ghost use Rattle.usage.specs.Held.{held};
-ghost use Rattle.std.proofs.Common.{rules};
+ghost use Rattle.kinds.specs.Laws.{capped_most, plan_above};
 
 use prices::PriceTable;
 use tariff::Tariff;
@@ -31,9 +31,9 @@ impl Tariff for Plan {
 
     ghost lowers = { λ t us u k. all_lowers (held t.table.groups) us k };
 
-    ghost capped = { Prim.search rules };
+    ghost capped = { λ t us u. capped_most _ };
 
-    ghost above = { Prim.search rules };
+    ghost above = { λ t us u. plan_above (table_data t.table) us t.table.fixed.low };
 
     fn serves(&self, seat: usize) -> bool {
         self.table.price(seat).is_some()

@@ -1,6 +1,6 @@
 //! Promotions: a fixed sum off the charge and the floor of any tariff.
 ghost use Rattle.kinds.specs.Meanings.{reduced};
-ghost use Rattle.std.proofs.Common.{rules};
+ghost use Rattle.kinds.specs.Laws.{reduced_most, reduced_above};
 
 use prices::FixedSum;
 use tariff::Tariff;
@@ -22,13 +22,13 @@ impl<T: Tariff> Tariff for Promotion<T> {
 
     ghost floor = { λ t. reduced t.reduction.hundredths (T.Tariff.floor t.below) };
 
-    ghost keeps = { Prim.search rules };
+    ghost keeps = { λ t us u. T.Tariff.keeps t.below us u };
 
-    ghost lowers = { Prim.search rules };
+    ghost lowers = { λ t us u k. T.Tariff.lowers t.below us u k };
 
-    ghost capped = { Prim.search rules };
+    ghost capped = { λ t us u. reduced_most t.reduction.hundredths _ (T.Tariff.capped t.below us u) };
 
-    ghost above = { Prim.search rules };
+    ghost above = { λ t us u. reduced_above t.reduction.hundredths _ _ (T.Tariff.above t.below us u) };
 
     fn serves(&self, seat: usize) -> bool {
         self.below.serves(seat)

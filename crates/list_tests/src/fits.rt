@@ -7,7 +7,6 @@ use listing::{Enquiry, list};
 use prices::PriceTable;
 use stage_tests::making::stale;
 use std::alloc::Global;
-use std::process::Abort;
 use std::test::Fail;
 
 // 1 where the one offer of a catalogue is listed, 0 where none is, 2 for a refusal.
@@ -21,31 +20,31 @@ fn shown(catalogue: &Catalogue<Plan>, asked: &Enquiry) -> u16 {
 }
 
 // A catalogue of one offer, which serves seat 0 from day 10 to day 20.
-fn single(rt: &impl Abort, heap: Global, tariff: Plan) -> Result<Catalogue<Plan>, Fail> {
+fn single(heap: Global, tariff: Plan) -> Result<Catalogue<Plan>, Fail> {
     let mut catalogue = opened(heap, 1, tariff)?;
-    offer(rt, heap, &mut catalogue, 0, 65, tariff)?;
+    offer(heap, &mut catalogue, 0, 65, tariff)?;
     Ok(catalogue)
 }
 
 #[test]
 fn a_tariff_that_serves_no_seat(rt: HostRuntime) -> Result<(), Fail> {
     let heap = rt.alloc();
-    let catalogue = single(&rt, heap, Plan::new(PriceTable::empty()))?;
+    let catalogue = single(heap, Plan::new(PriceTable::empty()))?;
     let noughts = enquiry(heap, 1, 0)?;
     let one_part = enquiry(heap, 1, 1)?;
     let told = [shown(&catalogue, &noughts), shown(&catalogue, &one_part)];
-    check_told(&rt, &told, &[1, 0])
+    check_told(&told, &[1, 0])
 }
 
 #[test]
 fn a_use_at_the_last_seat(rt: HostRuntime) -> Result<(), Fail> {
     let heap = rt.alloc();
-    let catalogue = single(&rt, heap, plan(1, 1)?)?;
+    let catalogue = single(heap, plan(1, 1)?)?;
     let first = enquiry(heap, 1, 5)?;
     let mut last = enquiry(heap, 1, 0)?;
     last.estimate = vec![in heap; 0, 0, 0, 0, 0, 0, 0, 0, 0, 0, 0, 0, 0, 0, 0, 1]?;
     let told = [shown(&catalogue, &first), shown(&catalogue, &last)];
-    check_told(&rt, &told, &[1, 0])
+    check_told(&told, &[1, 0])
 }
 
 // What is shown on a day.
@@ -57,7 +56,7 @@ fn shown_on(catalogue: &Catalogue<Plan>, asked: &mut Enquiry, day: u16) -> u16 {
 #[test]
 fn days_at_both_ends(rt: HostRuntime) -> Result<(), Fail> {
     let heap = rt.alloc();
-    let catalogue = single(&rt, heap, plan(1, 1)?)?;
+    let catalogue = single(heap, plan(1, 1)?)?;
     let mut asked = enquiry(heap, 1, 0)?;
     let told = [
         shown_on(&catalogue, &mut asked, 9),
@@ -66,13 +65,13 @@ fn days_at_both_ends(rt: HostRuntime) -> Result<(), Fail> {
         shown_on(&catalogue, &mut asked, 21),
         shown_on(&catalogue, &mut asked, 65_535),
     ];
-    check_told(&rt, &told, &[0, 1, 1, 0, 2])
+    check_told(&told, &[0, 1, 1, 0, 2])
 }
 
 #[test]
 fn an_open_last_day(rt: HostRuntime) -> Result<(), Fail> {
     let heap = rt.alloc();
-    let mut catalogue = single(&rt, heap, plan(1, 1)?)?;
+    let mut catalogue = single(heap, plan(1, 1)?)?;
     let amended = catalogue.amend(0, 65_535).is_ok();
     let mut asked = enquiry(heap, 1, 0)?;
     assert!(rt; amended);
@@ -100,7 +99,7 @@ fn networks_contracts_and_terms(rt: HostRuntime) -> Result<(), Fail> {
     let mut catalogue = opened(heap, 1, plan(1, 1)?)?;
     let mut head = subscription(heap, 65, 10, 20)?;
     head.term = 12;
-    publish_under(&rt, &mut catalogue, 0, &head, plan(1, 1)?);
+    publish_under(&mut catalogue, 0, &head, plan(1, 1)?)?;
     let mut asked = enquiry(heap, 1, 0)?;
     let told = [
         shown_for(&catalogue, &mut asked, 0, 0, 12),
@@ -110,5 +109,5 @@ fn networks_contracts_and_terms(rt: HostRuntime) -> Result<(), Fail> {
         shown_for(&catalogue, &mut asked, 0, 0, 11),
         shown_for(&catalogue, &mut asked, 0, 0, 60),
     ];
-    check_told(&rt, &told, &[1, 1, 0, 0, 0, 1])
+    check_told(&told, &[1, 1, 0, 0, 0, 1])
 }

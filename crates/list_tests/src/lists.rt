@@ -1,13 +1,12 @@
 //! What a list shows, and how many offers it costs.
 use crate::making::{enquiry, offer, plan};
 use catalogue::Catalogue;
-use catalogue_tests::making::opened;
+use catalogue_tests::making::{check, opened};
 use kinds::Plan;
 use listing::list;
 use stage_tests::making::{check_lines, line, stale};
 use stages::Line;
 use std::alloc::Global;
-use std::process::Abort;
 use std::test::Fail;
 
 // What an offer of the tests holds: a sum and a price.
@@ -22,44 +21,16 @@ fn priced(sum: u32, price: u32) -> Sums {
 }
 
 // Offers at places 0, 1 and 3 of 4.
-fn shop(
-    rt: &impl Abort,
-    heap: Global,
-    first: Sums,
-    second: Sums,
-    third: Sums,
-) -> Result<Catalogue<Plan>, Fail> {
+fn shop(heap: Global, first: Sums, second: Sums, third: Sums) -> Result<Catalogue<Plan>, Fail> {
     let mut catalogue = opened(heap, 4, plan(0, 0)?)?;
-    offer(
-        rt,
-        heap,
-        &mut catalogue,
-        0,
-        65,
-        plan(first.sum, first.price)?,
-    )?;
-    offer(
-        rt,
-        heap,
-        &mut catalogue,
-        1,
-        66,
-        plan(second.sum, second.price)?,
-    )?;
-    offer(
-        rt,
-        heap,
-        &mut catalogue,
-        3,
-        67,
-        plan(third.sum, third.price)?,
-    )?;
+    offer(heap, &mut catalogue, 0, 65, plan(first.sum, first.price)?)?;
+    offer(heap, &mut catalogue, 1, 66, plan(second.sum, second.price)?)?;
+    offer(heap, &mut catalogue, 3, 67, plan(third.sum, third.price)?)?;
     Ok(catalogue)
 }
 
 // Lists for 100,000 parts at seat 0, which cost as many hundredths as the price has ten-thousandths.
 fn check_list(
-    rt: &impl Abort,
     heap: Global,
     catalogue: &Catalogue<Plan>,
     length: usize,
@@ -68,67 +39,58 @@ fn check_list(
     wanted_costed: usize,
 ) -> Result<(), Fail> {
     let (shown, costed) = list(catalogue, &enquiry(heap, length, 100_000)?, memory)?;
-    assert_eq!(rt; shown, wanted_shown, "shown");
-    assert_eq!(rt; costed, wanted_costed, "costed");
-    Ok(())
+    check(shown == wanted_shown, "shown")?;
+    check(costed == wanted_costed, "costed")
 }
 
 #[test]
 fn equal_totals_stay_on(rt: HostRuntime) -> Result<(), Fail> {
     let heap = rt.alloc();
-    let catalogue = shop(&rt, heap, priced(7, 0), priced(5, 0), priced(5, 0))?;
+    let catalogue = shop(heap, priced(7, 0), priced(5, 0), priced(5, 0))?;
     let mut memory = [stale(); 5];
-    check_list(&rt, heap, &catalogue, 1, &mut memory, 2, 2)?;
+    check_list(heap, &catalogue, 1, &mut memory, 2, 2)?;
     let none = line(0, 0);
-    check_lines(&rt, &memory, &[line(1, 5), line(3, 5), none, none, none])
+    check_lines(&memory, &[line(1, 5), line(3, 5), none, none, none])
 }
 
 #[test]
 fn lengths(rt: HostRuntime) -> Result<(), Fail> {
     let heap = rt.alloc();
-    let catalogue = shop(&rt, heap, priced(7, 0), priced(5, 0), priced(5, 0))?;
+    let catalogue = shop(heap, priced(7, 0), priced(5, 0), priced(5, 0))?;
     let mut memory = [stale(); 4];
-    check_list(&rt, heap, &catalogue, 2, &mut memory, 3, 3)?;
-    check_list(&rt, heap, &catalogue, 3, &mut memory, 3, 3)?;
-    check_list(&rt, heap, &catalogue, 20, &mut memory, 3, 3)?;
-    check_lines(
-        &rt,
-        &memory,
-        &[line(1, 5), line(3, 5), line(0, 7), line(0, 0)],
-    )
+    check_list(heap, &catalogue, 2, &mut memory, 3, 3)?;
+    check_list(heap, &catalogue, 3, &mut memory, 3, 3)?;
+    check_list(heap, &catalogue, 20, &mut memory, 3, 3)?;
+    check_lines(&memory, &[line(1, 5), line(3, 5), line(0, 7), line(0, 0)])
 }
 
 #[test]
 fn taking_ends_early(rt: HostRuntime) -> Result<(), Fail> {
     let heap = rt.alloc();
-    let catalogue = shop(&rt, heap, priced(3, 5), priced(5, 1), priced(9, 0))?;
+    let catalogue = shop(heap, priced(3, 5), priced(5, 1), priced(9, 0))?;
     let mut memory = [stale(); 4];
-    check_list(&rt, heap, &catalogue, 1, &mut memory, 1, 2)?;
+    check_list(heap, &catalogue, 1, &mut memory, 1, 2)?;
     let none = line(0, 0);
-    check_lines(&rt, &memory, &[line(1, 6), none, none, none])
+    check_lines(&memory, &[line(1, 6), none, none, none])
 }
 
 #[test]
 fn a_floor_that_ties_is_costed(rt: HostRuntime) -> Result<(), Fail> {
     let heap = rt.alloc();
-    let catalogue = shop(&rt, heap, priced(3, 5), priced(5, 1), priced(8, 0))?;
+    let catalogue = shop(heap, priced(3, 5), priced(5, 1), priced(8, 0))?;
     let mut memory = [stale(); 4];
-    check_list(&rt, heap, &catalogue, 1, &mut memory, 1, 3)?;
+    check_list(heap, &catalogue, 1, &mut memory, 1, 3)?;
     let none = line(0, 0);
-    check_lines(&rt, &memory, &[line(1, 6), none, none, none])
+    check_lines(&memory, &[line(1, 6), none, none, none])
 }
 
 #[test]
 fn a_tie_at_the_floor_is_shown(rt: HostRuntime) -> Result<(), Fail> {
     let heap = rt.alloc();
-    let catalogue = shop(&rt, heap, priced(8, 0), priced(3, 5), priced(8, 0))?;
+    let catalogue = shop(heap, priced(8, 0), priced(3, 5), priced(8, 0))?;
     let mut memory = [stale(); 4];
-    check_list(&rt, heap, &catalogue, 1, &mut memory, 3, 3)?;
-    check_lines(
-        &rt,
-        &memory,
-        &[line(0, 8), line(1, 8), line(3, 8), line(0, 0)],
-    )
+    check_list(heap, &catalogue, 1, &mut memory, 3, 3)?;
+    check_lines(&memory, &[line(0, 8), line(1, 8), line(3, 8), line(0, 0)])
 }
 
 #[test]
@@ -136,28 +98,27 @@ fn no_offers(rt: HostRuntime) -> Result<(), Fail> {
     let heap = rt.alloc();
     let catalogue = opened(heap, 1, plan(0, 0)?)?;
     let mut memory = [stale(); 2];
-    check_list(&rt, heap, &catalogue, 1, &mut memory, 0, 0)?;
-    check_lines(&rt, &memory, &[line(0, 0), line(0, 0)])
+    check_list(heap, &catalogue, 1, &mut memory, 0, 0)?;
+    check_lines(&memory, &[line(0, 0), line(0, 0)])
 }
 
 #[test]
 fn a_full_catalogue(rt: HostRuntime) -> Result<(), Fail> {
     let heap = rt.alloc();
     let mut catalogue = opened(heap, 256, plan(0, 0)?)?;
-    offer(&rt, heap, &mut catalogue, 0, 65, plan(2, 0)?)?;
-    offer(&rt, heap, &mut catalogue, 255, 66, plan(2, 0)?)?;
+    offer(heap, &mut catalogue, 0, 65, plan(2, 0)?)?;
+    offer(heap, &mut catalogue, 255, 66, plan(2, 0)?)?;
     let mut memory = [stale(); 256];
-    check_list(&rt, heap, &catalogue, 1, &mut memory, 2, 2)?;
-    check_lines(&rt, &memory[0..3], &[line(0, 2), line(255, 2), line(0, 0)])
+    check_list(heap, &catalogue, 1, &mut memory, 2, 2)?;
+    check_lines(&memory[0..3], &[line(0, 2), line(255, 2), line(0, 0)])
 }
 
 // Offers at 22 places, each a hundredth cheaper than the one before.
-fn falling(rt: &impl Abort, heap: Global) -> Result<Catalogue<Plan>, Fail> {
+fn falling(heap: Global) -> Result<Catalogue<Plan>, Fail> {
     let mut catalogue = opened(heap, 22, plan(0, 0)?)?;
     for place in 0..22u8 {
         let sum = 30 - u32::from(place);
         offer(
-            rt,
             heap,
             &mut catalogue,
             usize::from(place),
@@ -171,9 +132,9 @@ fn falling(rt: &impl Abort, heap: Global) -> Result<Catalogue<Plan>, Fail> {
 #[test]
 fn twenty_different_totals(rt: HostRuntime) -> Result<(), Fail> {
     let heap = rt.alloc();
-    let catalogue = falling(&rt, heap)?;
+    let catalogue = falling(heap)?;
     let mut memory = [stale(); 22];
-    check_list(&rt, heap, &catalogue, 20, &mut memory, 20, 20)?;
-    check_lines(&rt, &memory[0..2], &[line(21, 9), line(20, 10)])?;
-    check_lines(&rt, &memory[19..22], &[line(2, 28), line(0, 0), line(0, 0)])
+    check_list(heap, &catalogue, 20, &mut memory, 20, 20)?;
+    check_lines(&memory[0..2], &[line(21, 9), line(20, 10)])?;
+    check_lines(&memory[19..22], &[line(2, 28), line(0, 0), line(0, 0)])
 }

@@ -1,12 +1,11 @@
 //! Offers and enquiries for the tests.
 use catalogue::Catalogue;
-use catalogue_tests::making::subscription;
+use catalogue_tests::making::{check, subscription};
 use heads::RawHead;
 use kinds::Plan;
 use listing::Enquiry;
 use prices::{FixedSum, PriceTable, UnitPrice};
 use std::alloc::{AllocError, Global};
-use std::process::Abort;
 use std::test::Fail;
 use usage::{Groups, Refusal};
 
@@ -20,7 +19,6 @@ pub fn plan(sum: u32, price: u32) -> Result<Plan, Refusal> {
 
 // Enters and publishes a plan for days 10 to 20, under a name of one letter.
 pub fn offer(
-    rt: &impl Abort,
     heap: Global,
     catalogue: &mut Catalogue<Plan>,
     place: usize,
@@ -28,21 +26,19 @@ pub fn offer(
     plan: Plan,
 ) -> Result<(), Fail> {
     let head = subscription(heap, letter, 10, 20)?;
-    publish_under(rt, catalogue, place, &head, plan);
-    Ok(())
+    publish_under(catalogue, place, &head, plan)
 }
 
 // Enters and publishes a plan under a head.
 pub fn publish_under(
-    rt: &impl Abort,
     catalogue: &mut Catalogue<Plan>,
     place: usize,
     head: &RawHead,
     plan: Plan,
-) {
+) -> Result<(), Fail> {
     let entered = catalogue.enter(place, head, plan).is_ok();
     let published = catalogue.publish(place).is_ok();
-    assert!(rt; entered && published);
+    check(entered && published, "not published")
 }
 
 // An enquiry for day 15, any network, contract and term, with these parts at seat 0.

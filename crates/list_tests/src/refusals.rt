@@ -39,9 +39,9 @@ fn in_order(rt: HostRuntime) -> Result<(), Fail> {
         number(&catalogue, &mut asked, 20, 65_534, &mut short),
         number(&catalogue, &mut asked, 20, 65_534, &mut enough),
     ];
-    check_told(&rt, &told, &[20, 20, 22, 24, 30])?;
-    check_lines(&rt, &short, &[stale()])?;
-    check_lines(&rt, &enough, &[stale(), stale()])
+    check_told(&told, &[20, 20, 22, 24, 30])?;
+    check_lines(&short, &[stale()])?;
+    check_lines(&enough, &[stale(), stale()])
 }
 
 // The number that an enquiry with these values is declined with, or 0.
@@ -70,7 +70,7 @@ fn values_of_an_enquiry(rt: HostRuntime) -> Result<(), Fail> {
         valued(&catalogue, &mut asked, 2, 3, 60),
         valued(&catalogue, &mut asked, 2, 2, 61),
     ];
-    check_told(&rt, &told, &[0, 22, 22, 22])
+    check_told(&told, &[0, 22, 22, 22])
 }
 
 #[test]
@@ -85,7 +85,7 @@ fn estimates(rt: HostRuntime) -> Result<(), Fail> {
         number(&catalogue, &mut most, 1, 15, &mut memory),
         number(&catalogue, &mut fifteen, 1, 15, &mut memory),
     ];
-    check_told(&rt, &told, &[0, 30])
+    check_told(&told, &[0, 30])
 }
 
 #[test]

@@ -22,7 +22,7 @@ fn begin(rt: HostRuntime) -> Result<(), Fail> {
         beginning(21),
         beginning(usize::MAX),
     ];
-    check_told(&rt, &told, &[20, 0, 0, 20, 20])
+    check_told(&told, &[20, 0, 0, 20, 20])
 }
 
 // Puts the lines in turn.
@@ -55,7 +55,6 @@ fn put_by_total_then_place(rt: HostRuntime) -> Result<(), Fail> {
     assert_eq!(rt; stage.length(), 3);
     // memory past the held lines stays
     check_lines(
-        &rt,
         &memory,
         &[line(1, 5), line(3, 5), line(2, 7), line(0, 9), stale()],
     )
@@ -71,7 +70,7 @@ fn put_into_short_memory(rt: HostRuntime) -> Result<(), Fail> {
             assert_eq!(rt; refusal.number(), 24);
             assert_eq!(rt; same.held(), 1);
             assert_eq!(rt; same.length(), 3);
-            check_lines(&rt, &memory, &[line(4, 6)])
+            check_lines(&memory, &[line(4, 6)])
         }
     }
 }
@@ -86,7 +85,7 @@ fn cut_of_short_memory(rt: HostRuntime) -> Result<(), Fail> {
         Err((refusal, same)) => {
             assert_eq!(rt; refusal.number(), 24);
             assert_eq!(rt; same.held(), 2);
-            check_lines(&rt, &short, &[stale()])
+            check_lines(&short, &[stale()])
         }
     }
 }
@@ -96,18 +95,10 @@ fn cuts(rt: HostRuntime) -> Result<(), Fail> {
     let mut memory = [stale(); 4];
     assert_eq!(rt; cut(3, &mut memory)?.shown(), 3);
     assert_eq!(rt; cut(2, &mut memory)?.shown(), 3);
-    check_lines(
-        &rt,
-        &memory,
-        &[line(1, 5), line(2, 5), line(0, 7), line(0, 0)],
-    )?;
+    check_lines(&memory, &[line(1, 5), line(2, 5), line(0, 7), line(0, 0)])?;
     assert_eq!(rt; cut(1, &mut memory)?.shown(), 2);
     // memory behind is cleared
-    check_lines(
-        &rt,
-        &memory,
-        &[line(1, 5), line(2, 5), line(0, 0), line(0, 0)],
-    )
+    check_lines(&memory, &[line(1, 5), line(2, 5), line(0, 0), line(0, 0)])
 }
 
 // The number that reading a line is refused with, or 0.
@@ -131,6 +122,6 @@ fn read(rt: HostRuntime) -> Result<(), Fail> {
         // too short a memory comes before no such line
         reading(&cut, &short, 2),
     ];
-    check_told(&rt, &told, &[0, 0, 26, 24, 24])?;
-    check_lines(&rt, &[cut.line(&memory, 1)?], &[line(2, 5)])
+    check_told(&told, &[0, 0, 26, 24, 24])?;
+    check_lines(&[cut.line(&memory, 1)?], &[line(2, 5)])
 }

@@ -1,6 +1,6 @@
 //! Lines for tests.
+use catalogue_tests::making::check;
 use stages::Line;
-use std::process::Abort;
 use std::test::Fail;
 
 /// A line of a total in hundredths.
@@ -17,11 +17,14 @@ pub fn stale() -> Line {
 }
 
 /// Whether the memory holds these lines.
-pub fn check_lines(rt: &impl Abort, memory: &[Line], wanted: &[Line]) -> Result<(), Fail> {
-    assert_eq!(rt; memory.len(), wanted.len());
+pub fn check_lines(memory: &[Line], wanted: &[Line]) -> Result<(), Fail> {
+    check(memory.len() == wanted.len(), "another count of lines")?;
     for i in 0..memory.len() {
         if i < wanted.len() {
-            assert_eq!(rt; memory[i], wanted[i], "line {i}");
+            let (line, other) = (memory[i], wanted[i]);
+            if line != other {
+                return Err(Fail::new(format_args!("{line:?} and not {other:?} at {i}")));
+            }
         }
     }
     Ok(())

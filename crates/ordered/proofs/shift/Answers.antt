@@ -1,5 +1,5 @@
-use Rattle.std.proofs.Common.{◌≡◌, ◌≤◌, arith}
-use Rattle.ordered.proofs.Moves.{Moved, put_at}
+use Rattle.std.proofs.Common.{◌≡◌, arith}
+use Rattle.ordered.proofs.Moves.{put_at}
 use Rattle.ordered.proofs.shift.Goals as goal
 
 pub returns : goal.returns
