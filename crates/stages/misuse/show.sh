@@ -10,6 +10,7 @@ trap 'rm -rf "$scratch"' EXIT
 mkdir "$scratch/crates"
 for crate in refusal ordered stages; do
     cp -r "$crates/$crate" "$scratch/crates/"
+    rm -rf "$scratch/crates/$crate/out"
 done
 printf 'refusal:\nordered:\nstages: refusal ordered\n' > "$scratch/crates.txt"
 cd "$scratch"
@@ -21,7 +22,7 @@ for text in "$here"/*.txt; do
     sed '/^---$/,$d' "$text" > "crates/$name/src/lib.rt"
     words=$(sed '1,/^---$/d' "$text")
     printf '%s: stages\n' "$name" >> crates.txt
-    if rt dev "$name" > "$name.log" 2>&1; then
+    if (cd "crates/$name" && rt check) > "$name.log" 2>&1; then
         echo "$name: NOT REFUSED"
         status=1
     elif grep -qF -- "$words" "$name.log"; then
