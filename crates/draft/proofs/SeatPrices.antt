@@ -1,5 +1,5 @@
 -- The price of an end service and of a seat. Assumes nothing.
-use Rattle.std.proofs.Common.{◌≡◌, ℕ, true, false, map, length, get_or, is_some, Some, None, Decides, Option, refl, ap, inl, inr, arith, MatchOption}
+use Rattle.std.proofs.Common.{◌≡◌, ℕ, map, length, get_or, is_some, Some, None, Decides, Option, refl, ap, inl, inr, arith, MatchOption}
 use Rattle.std.specs.List.{range_with_len}
 use Rattle.std.proofs.lemmas.List.FromFn.{get_or-map-range_with_len, length-map-range_with_len}
 use Rattle.std.proofs.lemmas.List.{get_or_past}

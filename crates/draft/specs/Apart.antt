@@ -1,5 +1,5 @@
 -- What the prices and the groups of every draft keep to. Assumes nothing.
-use Rattle.std.specs.Prelude.{◌≡◌, ℕ, ◌<◌, true, false, List, length, get_or, Some, None, Option, slice_index_or}
+use Rattle.std.specs.Prelude.{◌≡◌, ℕ, ◌<◌, true, false, List, length, Some, None, Option, slice_index_or}
 use Rattle.ordered.specs.Members.{Among}
 use Rattle.usage.specs.Groups.{GroupData}
 use Rattle.tree.specs.Trees.{ends_below, OnBranch}
@@ -29,7 +29,7 @@ pub record GroupSeat (groups : List GroupData) : Type 0 where
   pub group : GroupData
   pub seat : ℕ
   pub held : Among group groups
-  pub member : get_or group.members seat false ≡ true
+  pub member : slice_index_or group.members seat false ≡ true
 
 -- each seat of a group is one of the tree's
 abbrev pub Seated : List ℕ → List GroupData → Type 0

@@ -1,5 +1,5 @@
 -- What a draft holds, and what an entry makes of it. Assumes nothing.
-use Rattle.std.specs.Prelude.{ℕ, Bool, true, false, ◌||◌, List, [], ◌∷◌, map, set, replicate, Some, None, Option, slice_set}
+use Rattle.std.specs.Prelude.{ℕ, Bool, true, false, ◌||◌, List, [], ◌∷◌, map, replicate, Some, None, Option, slice_set}
 use Rattle.std.specs.List.{range_with_len}
 use Rattle.ordered.specs.Members.{Among}
 use Rattle.usage.specs.Groups.{GroupData, group_data, with_group}

@@ -1,5 +1,5 @@
 -- What a saved draft is. Assumes nothing.
-use Rattle.std.specs.Prelude.{◌≡◌, ℕ, ◌<◌, Bool, true, false, cond, not, ◌&&◌, ◌||◌, List, [], ◌∷◌, map, length, get_or, is_some, Some, None, Ok, Err, Decides, Option, Result, MatchOption, nat_lt, slice_index_or}
+use Rattle.std.specs.Prelude.{◌≡◌, ℕ, ◌<◌, Bool, true, false, cond, not, ◌&&◌, ◌||◌, List, [], ◌∷◌, map, length, is_some, Some, None, Ok, Err, Decides, Option, Result, MatchOption, nat_lt, slice_index_or}
 use Rattle.std.specs.List.{range_with_len}
 use Rattle.refusal.specs.Rows.{RowData, bare}
 use Rattle.refusal.specs.Lowest.{lowest, Lowest}
@@ -48,7 +48,7 @@ pub record LacksPrice (d : DraftData) (e : ℕ) : Type 0 where
   pub seated : Seat d.parents e seat
   pub group : GroupData
   pub held : Among group d.groups
-  pub member : get_or group.members seat false ≡ true
+  pub member : slice_index_or group.members seat false ≡ true
   pub unpriced : (k p : ℕ) → OnBranch d.parents k e → PriceAt d.prices k p → ⊥
 
 -- a row holds for saving as an option

@@ -1,5 +1,6 @@
 -- An entry that is read to its end, and the draft's answer to it. Assumes nothing.
 use Rattle.std.proofs.Common.{◌≡◌, ℕ, List, Result, refl}
+use Rattle.std.specs.Borrow.{Bor}
 use Rattle.cursor.specs.declared.part.Part.{Part}
 use Rattle.cursor.specs.Parts.{cut}
 use Rattle.cursor.specs.Readings.{value, field, ranged, run}
@@ -8,11 +9,14 @@ use Rattle.draft.specs.Drafts.{DraftData}
 use Rattle.draft.specs.Rules.{enter_price, enter_group}
 use Rattle.sheet.specs.Layout.{answered, priced, price_entry, grouped, group_entry}
 
-pub price_is : (d : DraftData) (xs : List ℕ) (at m n node price : ℕ) (r : Result DraftData Refusal) →
-    field 1 xs at ≡ value node m → field 4 xs m ≡ value price n → r ≡ enter_price d node price →
-    price_entry d xs at ≡ answered at r xs n
+-- the price stands in the same bytes as the node
+pub price_is : (d : DraftData) (sheet rest : Bor (List ℕ)) (at m n node price : ℕ) (r : Result DraftData Refusal) →
+    field 1 sheet.now at ≡ value node m → rest ≡ sheet → field 4 rest.now m ≡ value price n → r ≡ enter_price d node price →
+    price_entry d sheet.now at ≡ answered at r sheet.now n
 unfolding priced
-price_is d xs at m n node price r a b e = rw (a, b, e) refl
+price_is d sheet rest at m n node price r a s b e =
+    let f : field 4 sheet.now m ≡ value price n = simp s at b in
+    rw (a, f, e) refl
 
 pub group_is : (d : DraftData) (xs ns : List ℕ) (at m n o p order units count : ℕ) (nodes : Part) (r : Result DraftData Refusal) →
     field 1 xs at ≡ value order m → field 4 xs m ≡ value units n → ranged 1 1 40 xs n ≡ value count o → run count xs o ≡ value nodes p →

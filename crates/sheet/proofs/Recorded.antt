@@ -6,7 +6,7 @@ use Rattle.std.proofs.lemmas.Bool.{cases_lt}
 use Rattle.std.proofs.lemmas.Bool.Decides.{nat_tests}
 use Rattle.heads.specs.Rules.{head_of, SoundHead}
 use Rattle.cursor.specs.Parts.{cut}
-use Rattle.cursor.specs.Readings.{Answers, fault, repeated, field, ranged, run, text, ended}
+use Rattle.cursor.specs.Readings.{Answers, repeated, field, ranged, run, text, ended}
 use Rattle.cursor.specs.Encodings.{Bytes, two, four, Text, counted}
 use Rattle.cursor.proofs.Whenever.{Whenever, whenever_weaker, whenever_then, whenever_as, whenever_at, whenever_both}
 use Rattle.cursor.proofs.Written.{Stands, stands_behind, TextRead, one_written, two_written, two_bound, four_written, ranged_whenever, run_written, text_written, ended_written}

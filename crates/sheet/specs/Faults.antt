@@ -2,7 +2,7 @@
 use Rattle.std.specs.Prelude.{ℕ, [], ◌∷◌, ◌++◌}
 use Rattle.refusal.specs.Rows.{RowData}
 use Rattle.refusal.specs.declared.value.Value.TheVariants.{Byte, Layer}
-use Rattle.cursor.specs.Faults.{row_of as LayoutRow}
+use Rattle.cursor.specs.Faults.{row_of as layout_row}
 use Rattle.draft.specs.Refusals.{row_of as draft_row}
 use Rattle.sheet.specs.declared.fault.Fault.{Fault}
 use Rattle.sheet.specs.declared.fault.Fault.TheVariants.{Layout, Draft}
@@ -12,5 +12,5 @@ abbrev pub at_entry : RowData → ℕ → RowData
 at_entry row byte = record { number = row.number; values = row.values ++ (Byte byte ∷ (Layer 2 ∷ [])) }
 
 abbrev pub row_of : Fault → RowData
-row_of (Layout fault) = LayoutRow fault
+row_of (Layout fault) = layout_row fault
 row_of (Draft refusal byte) = at_entry (draft_row refusal) byte

@@ -1,5 +1,6 @@
 //! Entries that the draft declines.
 use crate::sheets::*;
+use std::test::Fail;
 
 #[test]
 fn no_such_node(rt: HostRuntime) -> Result<(), Fail> {

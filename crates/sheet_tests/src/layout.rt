@@ -1,5 +1,6 @@
 //! Faults of the layout.
 use crate::sheets::*;
+use std::test::Fail;
 
 #[test]
 fn a_sheet_that_ends_early(rt: HostRuntime) -> Result<(), Fail> {

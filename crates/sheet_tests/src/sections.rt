@@ -1,6 +1,7 @@
 //! Reading by sections: a refused section leaves the reader as it was.
 use crate::sheets::*;
 use sheet::Reader;
+use std::test::Fail;
 
 #[test]
 fn section_by_section(rt: HostRuntime) -> Result<(), Fail> {
@@ -8,8 +9,8 @@ fn section_by_section(rt: HostRuntime) -> Result<(), Fail> {
     let mut reader = Reader::new(&sheet, small_tree()?);
     assert!(rt; reader.end().is_err());
     let head = reader.head()?;
-    assert!(rt; reader.name()? == b"Ab");
-    assert!(rt; reader.link()? == b"x");
+    assert!(rt; reader.name()? == b"Ab".as_slice());
+    assert!(rt; reader.link()? == b"x".as_slice());
     reader.prices()?;
     reader.groups()?;
     reader.end()?;

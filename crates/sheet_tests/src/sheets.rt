@@ -98,8 +98,8 @@ fn a_good_sheet_is_read(rt: HostRuntime) -> Result<(), Fail> {
     assert_eq!(rt; read.head.first, 1);
     assert_eq!(rt; read.head.last, 65_535);
     let name = read.name_in(&sheet).ok_or("no name")?;
-    assert!(rt; name == b"Ab");
+    assert!(rt; name == b"Ab".as_slice());
     let link = read.link_in(&sheet).ok_or("no link")?;
-    assert!(rt; link == b"x");
+    assert!(rt; link == b"x".as_slice());
     Ok(())
 }

@@ -13,7 +13,7 @@ decides_listed : (n : ℕ) (ns : List ℕ) → Decides (among n ns) ((k : ℕ) �
 decides_listed n ns = Decides-by_or (λ m. eqb m n) (λ m. m ≡ n) (among n) (λ m. Decides-eqb m n) refl (λ _ _. refl) ns
 
 -- what `contains` answers
-pub contains_among : (n : ℕ) (ns : List ℕ) (r : Bool) → IsAnyAnswer (λ m t. Decides t (m ≡ n)) ns r → r ≡ among n ns
+pub contains_among : (n : ℕ) (ns : List ℕ) (r : Bool) → IsAnyAnswer (λ m t. eqb m n ≡ t) ns r → r ≡ among n ns
 contains_among n ns r s = same_from_decides r (among n ns) (contains_decides eqb Decides-eqb ns n r s) (decides_listed n ns)
 
 -- what the test for a parent tells

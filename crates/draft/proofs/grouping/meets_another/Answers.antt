@@ -5,10 +5,10 @@ use Rattle.tree.specs.Held.{parents_of}
 use Rattle.draft.specs.Rules.{meets}
 use Rattle.refusal.proofs.Lowest.{some_here, lowest_more}
 use Rattle.draft.proofs.grouping.meets_another.Goals as goal
-use Rattle.draft.proofs.grouping.meets_another.Goals.{else-m-n-via-then-m-n+then-flags-m+else-share-branch, else-m-n-via-then-m-n+else-flags-m, else-m-n-via-else-m-n}
+use Rattle.draft.proofs.grouping.meets_another.Goals.{else-m-n-via-then-m-n+then-flags-m+else-share_branch, else-m-n-via-then-m-n+else-flags-m, else-m-n-via-else-m-n}
 
-pub returns-then-share-branch : goal.returns-then-share-branch
-returns-then-share-branch c =
+pub returns-then-share_branch : goal.returns-then-share_branch
+returns-then-share_branch c =
     let ps = parents_of c.args.tree.now in
     let flags = c.args.flags.now in
     let n = c.args.n in
@@ -17,7 +17,7 @@ returns-then-share-branch c =
     let h : m < length ps = omega arith in
     let t : meets ps flags n m ≡ true =
     and_from (not (eqb m n)) (get_or flags m false && share_branch ps n m) (not_from_false _ (ne_eqb m n c.if-m-n.true))
-    (and_from (get_or flags m false) (share_branch ps n m) c.if-flags-m.true (sym c.if-share-branch.ensures.is)) in
+    (and_from (get_or flags m false) (share_branch ps n m) c.if-flags-m.true (sym c.if-share_branch.ensures.is)) in
     sym (some_here (meets ps flags n) (length ps) m h t)
 
 pub loop-m-preserved : goal.loop-m-preserved
@@ -28,8 +28,8 @@ loop-m-preserved c =
     let m = c.loop-m.m in
     let f : meets ps flags n m ≡ false =
     elim c.else-m-n.branch [
-      | else-m-n-via-then-m-n+then-flags-m+else-share-branch w ↦
-          and_right (not (eqb m n)) (get_or flags m false && share_branch ps n m) (and_right (get_or flags m false) (share_branch ps n m) (sym w.if-share-branch.ensures.is))
+      | else-m-n-via-then-m-n+then-flags-m+else-share_branch w ↦
+          and_right (not (eqb m n)) (get_or flags m false && share_branch ps n m) (and_right (get_or flags m false) (share_branch ps n m) (sym w.if-share_branch.ensures.is))
       | else-m-n-via-then-m-n+else-flags-m w ↦
           and_right (not (eqb m n)) (get_or flags m false && share_branch ps n m) (and_left (get_or flags m false) (share_branch ps n m) w.if-flags-m.false)
       | else-m-n-via-else-m-n w ↦

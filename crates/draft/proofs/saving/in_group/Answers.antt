@@ -9,14 +9,14 @@ use Rattle.draft.proofs.saving.in_group.Goals as goal
 abbrev none : GroupData
 none = record { members = []; units = 0; order = 0 }
 
-pub returns-then-has-member : goal.returns-then-has-member
-returns-then-has-member c =
+pub returns-then-has_member : goal.returns-then-has_member
+returns-then-has_member c =
     let s = c.args.seat in
     let gs = held c.args.groups.now in
     let i = c.loop-at.at in
     let z = c.count-at-end.ensures.many in
     let h : i < length gs = omega arith in
-    sym (any_here (λ g. get_or g.members s false) (in_group s) (λ _ _. refl) gs i none h c.loop-at.invariant (sym (member_there s gs i none h) ∙ sym c.if-has-member.ensures))
+    sym (any_here (λ g. get_or g.members s false) (in_group s) (λ _ _. refl) gs i none h c.loop-at.invariant (sym (member_there s gs i none h) ∙ sym c.if-has_member.ensures))
 
 pub loop-at-preserved : goal.loop-at-preserved
 loop-at-preserved c =
@@ -25,7 +25,7 @@ loop-at-preserved c =
     let i = c.loop-at.at in
     let z = c.count-at-end.ensures.many in
     let h : i < length gs = omega arith in
-    any_next (λ g. get_or g.members s false) (in_group s) (λ _ _. refl) gs i none h c.loop-at.invariant (sym (member_there s gs i none h) ∙ sym c.if-has-member.ensures)
+    any_next (λ g. get_or g.members s false) (in_group s) (λ _ _. refl) gs i none h c.loop-at.invariant (sym (member_there s gs i none h) ∙ sym c.if-has_member.ensures)
 
 pub returns : goal.returns
 returns c =

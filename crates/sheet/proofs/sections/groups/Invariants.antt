@@ -7,5 +7,5 @@ use Rattle.sheet.proofs.sections.groups.Given as goal
 abbrev pub invariant-loop-i : goal.invariant-loop-i
 invariant-loop-i l =
     (l.scan.bytes ≡ l.cursor.bytes)
-    × (repeated (l.count - l.-i) group_entry (draft_data l.gathered) l.cursor.bytes.now l.scan.at
+    × (repeated (l.count - l._i) group_entry (draft_data l.gathered) l.cursor.bytes.now l.scan.at
     ≡ repeated l.count group_entry (draft_data l.initial.gathered) l.cursor.bytes.now l.initial.scan.at)

@@ -8,6 +8,6 @@ use Rattle.sheet.proofs.whole.read.Goals as goal
 pub returns : goal.returns
 returns c =
     record {
-      is = c.read-all.ensures;
-      written = written_from (empty_draft (parents_of c.args.tree.now)) c.args.sheet.now (map_ok contents c.read-all.result) c.are-bytes.ensures c.read-all.ensures;
+      is = c.read_all.ensures;
+      written = written_from (empty_draft (parents_of c.args.tree.now)) c.args.sheet.now (map_ok contents c.read_all.result) c.are_bytes.ensures c.read_all.ensures;
     }

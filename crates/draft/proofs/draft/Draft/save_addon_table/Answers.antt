@@ -14,6 +14,6 @@ returns c =
     let d = draft_data self in
     let gs = self.groups in
     let ordered = held_in_order (take gs.count gs.entries) gs.rising in
-    let e = c.to-addon-table.ensures in
+    let e = c.to_addon_table.ensures in
     let P : Result TableData Refusal → Type 0 = λ r. AddonAnswer d c.args.sum r in
     record { is = e; means = subst P (sym e) (addon_answers d (keeps_rule self.tree) self.apart ordered c.args.sum) }

@@ -20,24 +20,21 @@ flag-grouped-requires c =
     let z = c.nodes.ensures.is in
     strays_more c.nodes.result 40 c.args.nodes.now (omega (arith, w.few)) (sym c.if-strays.ensures)
 
-pub invariant-of-result : goal.invariant-of-result
-invariant-of-result c =
+pub invariant_of-result : goal.invariant_of-result
+invariant_of-result c =
     let self = c.args.self in
     let ps = parents_of self.tree in
     let ns = c.args.nodes.now in
     let g = group_data c.members-members.result.flags c.args.units c.args.order in
     let m = c.members-members.ensures in
     let own : (s : ℕ) → get_or c.members-members.result.flags s false ≡ true → s < ends_below (length ps) ps =
-    λ s t. member_seated ps (keeps_rule self.tree) ns s (sym (ap (λ (fs : List Bool). get_or fs s false) m) ∙ t) in (
-      self.room,
-      (
-        ap length c.flag-grouped.ensures ∙ (length_flagged ns self.grouped ∙ self.flags),
-        (
-          self.apart,
-          (subst (Seated ps) (sym c.in-ok-groups.ensures.1) (add_seated ps g (held self.groups) own self.seated), tt),
-        ),
-      ),
-    )
+    λ s t. member_seated ps (keeps_rule self.tree) ns s (sym (ap (λ (fs : List Bool). get_or fs s false) m) ∙ t) in
+    record {
+      room = self.room;
+      flags = ap length c.flag-grouped.ensures ∙ (length_flagged ns self.grouped ∙ self.flags);
+      apart = self.apart;
+      seated = subst (Seated ps) (sym c.in_ok-groups.ensures.1) (add_seated ps g (held self.groups) own self.seated);
+    }
 
 pub returns : goal.returns
 returns c =
@@ -48,13 +45,13 @@ returns c =
     let units = c.args.units in
     let order = c.args.order in
     let m = c.members-members.ensures in
-    let g = c.in-ok-groups.ensures in
+    let g = c.in_ok-groups.ensures in
     let f : c.flag-grouped.result ≡ flagged ns self.grouped = c.flag-grouped.ensures in
     let z = c.nodes.ensures.is in
     let s : strays (length ps) ns ≡ false = sym (ap (λ (n : ℕ). strays n ns) z) ∙ sym c.if-strays.ensures in
     let cause : group_cause d.groups (group_data (members_of ps ns) units order) ≡ None =
     sym (ap (λ (fs : List Bool). group_cause d.groups (group_data fs units order)) m) ∙ g.0 in
     let free : lowest (shares ps (flagged ns self.grouped) ns) (length ps) ≡ None =
-    sym (ap (λ (fs : List Bool). lowest (shares ps fs ns) (length ps)) f) ∙ (sym c.sharer.ensures ∙ c.in-default.is) in
-    group_ok d order units ns c.flag-grouped.result (held c.in-ok-groups.groups) s cause free f
+    sym (ap (λ (fs : List Bool). lowest (shares ps fs ns) (length ps)) f) ∙ (sym c.sharer.ensures ∙ c.in_default.is) in
+    group_ok d order units ns c.flag-grouped.result (held c.in_ok-groups.groups) s cause free f
     (g.1 ∙ ap (λ (fs : List Bool). with_group (group_data fs units order) d.groups) m)

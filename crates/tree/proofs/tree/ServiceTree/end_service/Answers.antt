@@ -5,7 +5,7 @@ use Rattle.tree.specs.Held.{parents_of}
 use Rattle.tree.proofs.Held.{length_parents}
 use Rattle.tree.proofs.Seats.{ends_same, ends_more, seat_here, seat_parent, seat_other, SeatedBy, seated_by}
 use Rattle.tree.proofs.tree.ServiceTree.end_service.Goals as goal
-use Rattle.tree.proofs.tree.ServiceTree.end_service.Goals.{then-not-has-child+else-passed-seat, else-not-has-child}
+use Rattle.tree.proofs.tree.ServiceTree.end_service.Goals.{then-not-has_child+else-passed-seat, else-not-has_child}
 
 pub returns-then-passed-seat : goal.returns-then-passed-seat
 returns-then-passed-seat c =
@@ -28,12 +28,12 @@ loop-n-preserved c =
     let i = c.loop-n.invariant in
     let r : c.has_child.result ≡ among n ps = rw c.parents.ensures at c.has_child.ensures in
     elim c.if-not-has_child.branch [
-      | then-not-has-child+else-passed-seat w ↦
+      | then-not-has_child+else-passed-seat w ↦
           let f : among n ps ≡ false = sym r ∙ w.if-not-has_child.true in
           let e = ends_more n ps f in
           let q = w.if-passed-seat.false in
           (omega (arith, w.passed-is), omega (arith, w.passed-is), lowest_more (has_seat ps s) n i.2 (seat_other ps s n (λ k. q (i.0 ∙ k))))
-      | else-not-has-child w ↦
+      | else-not-has_child w ↦
           let f : among n ps ≡ true = sym r ∙ w.if-not-has_child.false in
           let e = ends_same n ps f in
           (omega (arith, w.passed-is), omega (arith, w.passed-is), lowest_more (has_seat ps s) n i.2 (seat_parent ps s n f))
