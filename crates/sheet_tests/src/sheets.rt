@@ -1,7 +1,6 @@
 //! The good sheet, and what a faulty one is told.
 use refusal::{Row, Value};
 use sheet::read;
-use std::process::Abort;
 use std::test::Fail;
 use tree::ServiceTree;
 
@@ -42,50 +41,42 @@ pub(crate) fn refusal_of(
     }
 }
 
-// The sheet is refused by the layout, at a byte.
-pub(crate) fn against_layout(
-    rt: &impl Abort,
+// The sheet is refused with this number and these values.
+fn check_refusal(
     sheet: &[u8],
     number: u16,
-    byte: u64,
+    first: Value,
+    second: Value,
+    third: Option<Value>,
 ) -> Result<(), Fail> {
-    let (told, first, second, third) = refusal_of(sheet)?;
-    assert_eq!(rt; told, number);
-    assert_eq!(rt; first, Some(Value::Byte(byte)));
-    assert_eq!(rt; second, Some(Value::Layer(1)));
-    assert_eq!(rt; third, None);
-    Ok(())
+    let told = refusal_of(sheet)?;
+    let wanted = (number, Some(first), Some(second), third);
+    if told == wanted {
+        Ok(())
+    } else {
+        Err(Fail::new(format_args!("{told:?} and not {wanted:?}")))
+    }
+}
+
+// The sheet is refused by the layout, at a byte.
+pub(crate) fn against_layout(sheet: &[u8], number: u16, byte: u64) -> Result<(), Fail> {
+    check_refusal(sheet, number, Value::Byte(byte), Value::Layer(1), None)
 }
 
 // The sheet is refused by the draft, at a byte, with no node.
-pub(crate) fn against_draft(
-    rt: &impl Abort,
-    sheet: &[u8],
-    number: u16,
-    byte: u64,
-) -> Result<(), Fail> {
-    let (told, first, second, third) = refusal_of(sheet)?;
-    assert_eq!(rt; told, number);
-    assert_eq!(rt; first, Some(Value::Byte(byte)));
-    assert_eq!(rt; second, Some(Value::Layer(2)));
-    assert_eq!(rt; third, None);
-    Ok(())
+pub(crate) fn against_draft(sheet: &[u8], number: u16, byte: u64) -> Result<(), Fail> {
+    check_refusal(sheet, number, Value::Byte(byte), Value::Layer(2), None)
 }
 
 // The sheet is refused by the draft, at a byte, with a node.
-pub(crate) fn at_node(
-    rt: &impl Abort,
-    sheet: &[u8],
-    number: u16,
-    node: u64,
-    byte: u64,
-) -> Result<(), Fail> {
-    let (told, first, second, third) = refusal_of(sheet)?;
-    assert_eq!(rt; told, number);
-    assert_eq!(rt; first, Some(Value::Node(node)));
-    assert_eq!(rt; second, Some(Value::Byte(byte)));
-    assert_eq!(rt; third, Some(Value::Layer(2)));
-    Ok(())
+pub(crate) fn at_node(sheet: &[u8], number: u16, node: u64, byte: u64) -> Result<(), Fail> {
+    check_refusal(
+        sheet,
+        number,
+        Value::Node(node),
+        Value::Byte(byte),
+        Some(Value::Layer(2)),
+    )
 }
 
 #[test]
