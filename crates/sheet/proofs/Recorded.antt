@@ -1,6 +1,6 @@
 -- A sheet that is read without a fault is the encoding of its fields. Assumes nothing.
 use Rattle.std.proofs.Common.{◌≡◌, ℕ, zero, suc, ◌≤◌, ◌⊎◌, List, [], ◌∷◌, ◌++◌, length, IfOk, Ok, Err, Result, refl, ap, ◌∙◌, inl, inr, arith}
-use Rattle.std.specs.List.{flat_map, AllByRecursion as All}
+use Rattle.std.specs.List.{flat_map, AllByRecursion}
 use Rattle.std.proofs.lemmas.List.{append-nil, drop_all}
 use Rattle.std.proofs.lemmas.Bool.{cases_lt}
 use Rattle.std.proofs.lemmas.Bool.Decides.{nat_tests}
@@ -120,14 +120,14 @@ module _ (xs : List ℕ) (fit : Bytes xs) where
       let few : FewNodes (record { order = order; units = units; nodes = cut nodes xs }) = rw e4.0 (e3.1, e3.2) in
       (record { order = order; units = units; nodes = cut nodes xs }, stands_behind e1 (stands_behind e2 t), h, few))))))
 
-  groups_written : (n : ℕ) (d : DraftData) (at : ℕ) → Whenever (repeated n group_entry d xs at) (λ e m. (fs : List GroupFields) × (length fs ≡ n) × Stands (flat_map group_bytes fs) xs at m × (enter_groups fs d ≡ Ok e) × All FewNodes fs)
+  groups_written : (n : ℕ) (d : DraftData) (at : ℕ) → Whenever (repeated n group_entry d xs at) (λ e m. (fs : List GroupFields) × (length fs ≡ n) × Stands (flat_map group_bytes fs) xs at m × (enter_groups fs d ≡ Ok e) × AllByRecursion FewNodes fs)
   groups_written zero d at = ([], refl, record { is = refl }, refl, tt)
   groups_written (suc n) d at =
       whenever_then (group_entry d xs at) (λ e k. repeated n group_entry e xs k) (λ e m. (f : GroupFields) × Stands (group_bytes f) xs at m × (grouped d f.order f.units f.nodes ≡ Ok e) × FewNodes f) _ (group_written d at) (λ e m p.
       whenever_weaker (repeated n group_entry e xs m) _ _ (groups_written n e m) (λ g k q.
       (p.0 ∷ q.0, ap suc q.1, stands_behind p.1 q.2, rw p.2 q.3, (p.3, q.4))))
 
-  group_section : (d : DraftData) (at : ℕ) → Whenever (groups d xs at) (λ e m. (fs : List GroupFields) × Stands (section group_bytes fs) xs at m × (enter_groups fs d ≡ Ok e) × (length fs ≤ 8) × All FewNodes fs)
+  group_section : (d : DraftData) (at : ℕ) → Whenever (groups d xs at) (λ e m. (fs : List GroupFields) × Stands (section group_bytes fs) xs at m × (enter_groups fs d ≡ Ok e) × (length fs ≤ 8) × AllByRecursion FewNodes fs)
   group_section d at =
       whenever_then _ _ (λ v n. Stands (v ∷ []) xs at n × (0 ≤ v) × (v ≤ 8)) _ (whenever_as Layout (ranged 1 0 8 xs at) _ (one_in 0 8 at)) (λ n m e1.
       whenever_weaker (repeated n group_entry d xs m) _ _ (groups_written n d m) (λ e k q.
@@ -139,12 +139,12 @@ module _ (xs : List ℕ) (fit : Bytes xs) where
   abbrev Made : ℕ → DraftData → ℕ → TableData → ℕ → Type 0
   Made sum d at t n =
       (ps : List PriceFields) × (gs : List GroupFields) × Stands (section price_bytes ps ++ section group_bytes gs) xs at n
-      × (length xs ≤ n) × (length ps ≤ 40) × (length gs ≤ 8) × All FewNodes gs × (go_on (enter_prices ps d) (λ e. go_on (enter_groups gs e) (λ g. save_plan g sum)) ≡ Ok t)
+      × (length xs ≤ n) × (length ps ≤ 40) × (length gs ≤ 8) × AllByRecursion FewNodes gs × (go_on (enter_prices ps d) (λ e. go_on (enter_groups gs e) (λ g. save_plan g sum)) ≡ Ok t)
 
   plan_written : (sum : ℕ) (d : DraftData) (at : ℕ) → Whenever (plan sum d xs at) (Made sum d at)
   plan_written sum d at =
       whenever_then _ _ (λ e m. (fs : List PriceFields) × Stands (section price_bytes fs) xs at m × (enter_prices fs d ≡ Ok e) × (length fs ≤ 40)) _ (price_section d at) (λ e a p.
-      whenever_then _ _ (λ g m. (fs : List GroupFields) × Stands (section group_bytes fs) xs a m × (enter_groups fs e ≡ Ok g) × (length fs ≤ 8) × All FewNodes fs) _ (group_section e a) (λ g b q.
+      whenever_then _ _ (λ g m. (fs : List GroupFields) × Stands (section group_bytes fs) xs a m × (enter_groups fs e ≡ Ok g) × (length fs ≤ 8) × AllByRecursion FewNodes fs) _ (group_section e a) (λ g b q.
       whenever_then _ _ (λ _ n. (n ≡ b) × (length xs ≤ b)) _ (whenever_as Layout (ended xs b) _ (ended_written xs b)) (λ _ c r.
       answered_whenever (length xs) (save_plan g sum) c _ (λ t h.
       let s : Stands (section group_bytes q.0) xs a c = rw r.0 q.1 in

@@ -1,6 +1,6 @@
 -- The record of a sheet's fields: the bytes that it is written in, and what it means. Assumes nothing.
 use Rattle.std.specs.Prelude.{◌≡◌, ℕ, ◌+◌, ◌≤◌, List, [], ◌∷◌, ◌++◌, length, Ok, Err, Result}
-use Rattle.std.specs.List.{flat_map, AllByRecursion as All}
+use Rattle.std.specs.List.{flat_map, AllByRecursion}
 use Rattle.heads.specs.Rules.{head_of, SoundHead}
 use Rattle.cursor.specs.Parts.{cut}
 use Rattle.cursor.specs.Encodings.{two, four, Text, counted}
@@ -40,7 +40,7 @@ pub record SoundFields (f : Fields) : Type 0 where
   pub link : Text 64 f.link
   pub prices : length f.prices ≤ 40
   pub groups : length f.groups ≤ 8
-  pub nodes : All FewNodes f.groups
+  pub nodes : AllByRecursion FewNodes f.groups
 
 -- The bytes.
 
