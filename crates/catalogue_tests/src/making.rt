@@ -41,9 +41,18 @@ pub fn check(holds: bool, words: &str) -> Result<(), Fail> {
     if holds { Ok(()) } else { Err(Fail::new(words)) }
 }
 
+/// Fails with both counts unless they are the same.
+pub fn check_count(told: usize, wanted: usize, words: &str) -> Result<(), Fail> {
+    if told == wanted {
+        Ok(())
+    } else {
+        Err(Fail::new(format_args!("{words}: {told} and not {wanted}")))
+    }
+}
+
 /// Whether a test was told these numbers.
 pub fn check_told(told: &[u16], wanted: &[u16]) -> Result<(), Fail> {
-    check(told.len() == wanted.len(), "another count of numbers")?;
+    check_count(told.len(), wanted.len(), "numbers")?;
     for i in 0..told.len() {
         if i < wanted.len() {
             let (number, other) = (told[i], wanted[i]);

@@ -1,7 +1,7 @@
 //! What a list shows, and how many offers it costs.
 use crate::making::{enquiry, offer, plan};
 use catalogue::Catalogue;
-use catalogue_tests::making::{check, opened};
+use catalogue_tests::making::{check_count, opened};
 use kinds::Plan;
 use listing::list;
 use stage_tests::making::{check_lines, line, stale};
@@ -39,8 +39,8 @@ fn check_list(
     wanted_costed: usize,
 ) -> Result<(), Fail> {
     let (shown, costed) = list(catalogue, &enquiry(heap, length, 100_000)?, memory)?;
-    check(shown == wanted_shown, "shown")?;
-    check(costed == wanted_costed, "costed")
+    check_count(shown, wanted_shown, "shown")?;
+    check_count(costed, wanted_costed, "costed")
 }
 
 #[test]

@@ -1,5 +1,5 @@
 //! Lines for tests.
-use catalogue_tests::making::check;
+use catalogue_tests::making::check_count;
 use stages::Line;
 use std::test::Fail;
 
@@ -18,7 +18,7 @@ pub fn stale() -> Line {
 
 /// Whether the memory holds these lines.
 pub fn check_lines(memory: &[Line], wanted: &[Line]) -> Result<(), Fail> {
-    check(memory.len() == wanted.len(), "another count of lines")?;
+    check_count(memory.len(), wanted.len(), "lines")?;
     for i in 0..memory.len() {
         if i < wanted.len() {
             let (line, other) = (memory[i], wanted[i]);
