@@ -1,0 +1,15 @@
+-- How refusals and their values are printed. Assumes nothing.
+use Rattle.std.specs.Prelude.{ℕ, List, ◌++◌, codes, decimal}
+use Rattle.refusal.specs.declared.value.Value.{Value}
+use Rattle.refusal.specs.declared.value.Value.TheVariants.{Place, Node, Byte, Layer}
+use Rattle.refusal.specs.Layers.{layer_number}
+
+-- a word and a number
+abbrev numbered : List ℕ → ℕ → List ℕ
+numbered word n = word ++ decimal n
+
+abbrev pub value_text : Value → List ℕ
+value_text (Place n) = numbered (codes "place ") n
+value_text (Node n) = numbered (codes "node ") n
+value_text (Byte n) = numbered (codes "byte ") n
+value_text (Layer l) = numbered (codes "layer ") (layer_number l)
