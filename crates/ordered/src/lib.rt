@@ -1,8 +1,7 @@
 //! Items kept in order at the front of a memory: one insertion for every kind of item.
 #![tactic(auto)]
 
-ghost use Rattle.std.specs.Prelude.{◌≡◌, ◌+◌, ◌<◌, ◌≤◌, Bool, ◌++◌, length, take, drop};
-ghost use Rattle.std.specs.List.{insert};
+ghost use Rattle.std.specs.Prelude.{◌≡◌, ◌≤◌, Bool, length, position};
 ghost use Rattle.ordered.specs.Inserting.{spot, Puts};
 
 /// Items that stand in an order.
@@ -20,6 +19,8 @@ pub trait Ranked {
 pub struct Full;
 
 /// Puts an item among the first `held` of the memory, before the first of them that it stands before.
+///
+/// The memory is lent by the caller and nothing is allocated, so how many are held stands beside it.
 pub fn put<T: Ranked + Copy>(memory: &mut [T], held: usize, item: T) -> Result<(), Full>
     ensures { Puts T.before item held memory.old result memory.new }
 {
@@ -27,7 +28,8 @@ pub fn put<T: Ranked + Copy>(memory: &mut [T], held: usize, item: T) -> Result<(
         return Err(Full);
     }
     let at = spot_of(&memory[0..held], &item);
-    shift(memory, at, held, item);
+    memory.copy_within(at..held, at + 1);
+    memory[at] = item;
     Ok(())
 }
 
@@ -36,23 +38,12 @@ fn spot_of<T: Ranked>(items: &[T], item: &T) -> usize
     ensures at { result ≡ spot T.before item.now items.now }
     ensures within { result ≤ length items.now }
 {
-    for (i, other) in items.iter().enumerate() {
-        if item.is_before(other) {
-            return i;
-        }
-    }
-    items.len()
+    first_behind(items, item).unwrap_or(items.len())
 }
 
-// Puts an item at `at`, and moves those from there to before `held` by one.
-fn shift<T: Copy>(memory: &mut [T], at: usize, held: usize, item: T)
-    requires { (at ≤ held) × (held < length memory.old) }
-    ensures { memory.new ≡ insert (take held memory.old) at item ++ drop (held + 1) memory.old }
+// The place of the first of these that an item stands before.
+fn first_behind<T: Ranked>(items: &[T], item: &T) -> Option<usize>
+    ensures { result ≡ position (T.before item.now) items.now }
 {
-    let mut i = held;
-    while i > at {
-        memory[i] = memory[i - 1];
-        i -= 1;
-    }
-    memory[at] = item;
+    items.iter().position(|other| item.is_before(other))
 }
