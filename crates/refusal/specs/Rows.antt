@@ -1,5 +1,5 @@
 -- Rows of the table of refusals. Assumes nothing.
-use Rattle.std.specs.Prelude.{ℕ, zero, suc, List, [], ◌∷◌, Some, None, Option}
+use Rattle.std.specs.Prelude.{ℕ, List, [], Option, slice_get}
 use Rattle.refusal.specs.declared.value.Value.{Value}
 
 -- a refusal's number, and the values that go with it
@@ -13,6 +13,4 @@ bare n = record { number = n; values = [] }
 
 -- the value at a place, counted from 0
 abbrev pub value_at : List Value → ℕ → Option Value
-value_at [] k = None
-value_at (v ∷ vs) zero = Some v
-value_at (v ∷ vs) (suc k) = value_at vs k
+value_at values at = slice_get values at

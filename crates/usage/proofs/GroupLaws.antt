@@ -1,7 +1,9 @@
 -- The groups of a tariff: orders, places, one group more, and all drawn. Assumes nothing.
-use Rattle.std.proofs.Common.{◌≡◌, ℕ, zero, suc, ◌+◌, ◌<◌, ◌≤◌, Bool, true, false, cond, ◌||◌, eqb, ltb, List, [], ◌∷◌, ◌++◌, map, length, get_or, take, drop, Some, None, Option, sym, refl, ap, ◌∙◌, ⊎_elim, arith}
+use Rattle.std.proofs.Common.{◌≡◌, ℕ, ◌+◌, ◌<◌, ◌≤◌, Bool, true, false, cond, ◌||◌, eqb, ltb, List, [], ◌∷◌, ◌++◌, map, length, get_or, take, drop, Some, None, Option, sym, refl, ap, ◌∙◌, ⊎_elim, arith}
 use Rattle.std.proofs.lemmas.List.{at_drop_more, at_drop_all, get_or-map, length-map, length-take-le, length-append, length-drop}
-use Rattle.std.proofs.lemmas.Bool.{ltb-true, lt-ltb, eq-eqb, ne_eqb, eqb-false, or_parts, or_right, and_from, cond-true, cond-false, lt-leb, cases_lt}
+use Rattle.std.proofs.lemmas.Bool.{ltb-true, lt-ltb, eqb-false, or_parts, or_right, and_from, cond-true, cond-false, lt-leb, cases_lt}
+use Rattle.std.specs.List.{list_any}
+use Rattle.std.specs.Bool.{◌==◌}
 use Rattle.ordered.specs.Inserting.{insert}
 use Rattle.ordered.specs.Ascending.{all, ascending}
 use Rattle.ordered.proofs.Order.{ascending_at, ascending_insert, map_insert, length_insert, take_put}
@@ -10,7 +12,7 @@ use Rattle.usage.specs.Drawing.{drawn}
 use Rattle.usage.specs.Orders.{lower}
 use Rattle.usage.specs.declared.refusing.Refusal.{Refusal}
 use Rattle.usage.specs.declared.refusing.Refusal.TheVariants.{EmptyGroup, OutOfRange, OrderUsed}
-use Rattle.usage.specs.Groups.{GroupData, data_of, no_member, shape_cause, group_cause, drawn_first, with_group, has_order, group_at, drawn_all, InOrder}
+use Rattle.usage.specs.Groups.{GroupData, data_of, no_member, shape_cause, group_cause, drawn_first, with_group, has_order, drawn_all, InOrder}
 use Rattle.usage.proofs.Fairness.{drawn_fair}
 
 -- `lower` is an order
@@ -42,31 +44,10 @@ held_in_order (g ∷ gs) e i j d l h =
     let to = get_or-map data_of (g ∷ gs) j g d k in
     omega (arith, ap (λ (x : GroupData). x.order) at, ap (λ (x : GroupData). x.order) to)
 
--- the group at a place
-pub group_within : (gs : List Group) (k : ℕ) (d : Group) → k < length gs → Some (data_of (get_or gs k d)) ≡ group_at (map data_of gs) k
-group_within [] k d h = absurd (omega arith)
-group_within (g ∷ gs) zero d h = refl
-group_within (g ∷ gs) (suc k) d h = group_within gs k d (omega arith)
-
-pub group_past : (gs : List Group) (k : ℕ) → length gs ≤ k → None ≡ group_at (map data_of gs) k
-group_past [] k h = refl
-group_past (g ∷ gs) zero h = absurd (omega arith)
-group_past (g ∷ gs) (suc k) h = group_past gs k (omega arith)
-
--- a turn of the search for an order
-pub order_hit : (o : ℕ) (gs : List Group) (i : ℕ) (g : Group) → i < length gs → g ≡ get_or gs i g → g.order ≡ o → has_order o (map data_of (drop i gs)) ≡ true
-order_hit o gs i g h is e =
-    at_drop_more (λ hs. has_order o (map data_of hs)) gs i g h
-    ∙ ap (λ (b : Bool). b || has_order o (map data_of (drop (i + 1) gs))) (eq-eqb _ _ (ap (λ (x : Group). x.order) (sym is) ∙ e))
-
-pub order_skip : (o : ℕ) (gs : List Group) (i : ℕ) (g : Group) → i < length gs → g ≡ get_or gs i g → (g.order ≡ o → ⊥)
-    → has_order o (map data_of (drop i gs)) ≡ has_order o (map data_of (drop (i + 1) gs))
-order_skip o gs i g h is e =
-    at_drop_more (λ hs. has_order o (map data_of hs)) gs i g h
-    ∙ ap (λ (b : Bool). b || has_order o (map data_of (drop (i + 1) gs))) (ne_eqb _ _ (λ z. e (ap (λ (x : Group). x.order) is ∙ z)))
-
-pub order_all : (o : ℕ) (gs : List Group) (i : ℕ) → length gs ≤ i → has_order o (map data_of (drop i gs)) ≡ false
-order_all o gs i h = at_drop_all (λ hs. has_order o (map data_of hs)) gs i h
+-- a group of these has an order
+pub order_among : (o : ℕ) (gs : List Group) → list_any (λ (g : Group). g.order == o) gs ≡ has_order o (map data_of gs)
+order_among o [] = refl
+order_among o (g ∷ gs) = ap (λ (b : Bool). (g.order == o) || b) (order_among o gs)
 
 -- a turn of the drawing of all groups
 pub all_more : (gs : List Group) (i : ℕ) (g : Group) (us us' whole : List ℕ) → i < length gs → g ≡ get_or gs i g → us' ≡ drawn g.members.flags g.units us

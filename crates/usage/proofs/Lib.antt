@@ -3,3 +3,4 @@ pub mod Steps
 pub mod Fairness
 pub mod UsesLaws
 pub mod GroupLaws
+pub mod Arrays

@@ -1,9 +1,10 @@
--- Steps of the loop that draws a group. Assumes nothing.
-use Rattle.std.proofs.Common.{◌≡◌, ℕ, zero, suc, ◌+◌, ◌-◌, ◌*◌, ◌/◌, ◌<◌, ◌≤◌, min, Bool, true, false, eqb, List, [], ◌∷◌, ◌++◌, length, get_or, take, drop, set, sym, ap, ◌∙◌, append_assoc, arith, length-set}
+-- What the members use together, and steps of the loop that draws a group. Assumes nothing.
+use Rattle.std.proofs.Common.{◌≡◌, ℕ, zero, suc, ◌+◌, ◌-◌, ◌*◌, ◌/◌, ◌<◌, ◌≤◌, min, sum, refl, Bool, true, false, eqb, List, [], ◌∷◌, ◌++◌, length, get_or, take, drop, set, sym, ap, ◌∙◌, append_assoc, arith, length-set}
 use native.Mathlib.Nat.{sub-zero}
 use Rattle.std.proofs.lemmas.Bool.{ne_eqb}
+use Rattle.std.proofs.lemmas.List.Sums.{sum_by-cons}
 use Rattle.std.proofs.lemmas.List.{drop_more, drop_all, take_all, take_more_set, append-nil}
-use Rattle.usage.specs.Drawing.{used, draws, fallen, drawn}
+use Rattle.usage.specs.Drawing.{used, used_at, draws, fallen, drawn}
 
 -- what is left of the list from a seat on
 abbrev pub left : ℕ → ℕ → ℕ → List Bool → List ℕ → List ℕ
@@ -100,3 +101,25 @@ drawing_all ms us units q s i parts p before sum part pos over past so =
     let e : parts ≡ left q s 0 ms us = drawing_end ms us q s i parts p before over past so in
     let some : eqb (used ms us) 0 ≡ false = ne_eqb (used ms us) 0 (λ z. omega arith) in
     rw (some, ← sum, ← part) e
+
+-- numbers that are what each seat adds to S
+pub used_is : (ms : List Bool) (us ys : List ℕ) → length us ≡ length ms → length ys ≡ length ms
+    → ((k : ℕ) → k < length ms → get_or ys k 0 ≡ used_at (get_or ms k false) (get_or us k 0)) → sum ys ≡ used ms us
+used_is [] [] [] a b f = refl
+used_is [] [] (y ∷ ys) a b f = absurd (omega arith)
+used_is [] (u ∷ us) ys a b f = absurd (omega arith)
+used_is (m ∷ ms) [] ys a b f = absurd (omega arith)
+used_is (m ∷ ms) (u ∷ us) [] a b f = absurd (omega arith)
+used_is (true ∷ ms) (u ∷ us) (y ∷ ys) a b f =
+    let e : y ≡ u = f 0 (omega arith) in
+    let more = used_is ms us ys (omega arith) (omega arith) (λ k lt. f (suc k) (omega arith)) in
+    sum_by-cons (λ y. y) y ys ∙ ap (λ n. n + sum ys) e ∙ ap (λ n. u + n) more
+used_is (false ∷ ms) (u ∷ us) (y ∷ ys) a b f =
+    let e : y ≡ 0 = f 0 (omega arith) in
+    let more = used_is ms us ys (omega arith) (omega arith) (λ k lt. f (suc k) (omega arith)) in
+    omega (arith, sum_by-cons (λ y. y) y ys)
+
+-- a seat adds no more than its use
+pub used_at_within : (m : Bool) (u : ℕ) → used_at m u ≤ u
+used_at_within true u = omega arith
+used_at_within false u = omega arith

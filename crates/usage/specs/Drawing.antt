@@ -1,6 +1,10 @@
 -- Drawing one group from a list of uses, over the list of who is a member. Assumes nothing.
 use Rattle.std.specs.Prelude.{ℕ, ◌+◌, ◌-◌, ◌*◌, ◌/◌, min, Bool, true, false, cond, List, [], ◌∷◌, ◌==◌}
 
+-- what a seat adds to S
+abbrev pub used_at : Bool → ℕ → ℕ
+used_at member parts = cond member parts 0
+
 -- S: the sum of the members' uses
 abbrev pub used : List Bool → List ℕ → ℕ
 used [] us = 0

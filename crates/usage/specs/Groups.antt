@@ -1,5 +1,6 @@
 -- The groups of one plan or option. Assumes nothing.
-use Rattle.std.specs.Prelude.{ℕ, zero, suc, ◌<◌, Bool, true, false, cond, ◌||◌, List, [], ◌∷◌, length, Some, None, Option, ◌==◌, nat_le, nat_lt, slice_index_or}
+use Rattle.std.specs.Prelude.{ℕ, ◌<◌, Bool, not, cond, List, [], ◌∷◌, length, Some, None, Option, ◌==◌, nat_le, nat_lt, slice_index_or, slice_get}
+use Rattle.std.specs.List.{list_all, list_any}
 use Rattle.ordered.specs.Inserting.{insert}
 use Rattle.usage.specs.Drawing.{drawn}
 use Rattle.usage.specs.declared.group.Group.{Group}
@@ -20,13 +21,11 @@ data_of g = group_data g.members.flags g.units g.order
 
 -- no seat is a member
 abbrev pub no_member : List Bool → Bool
-no_member [] = true
-no_member (m ∷ ms) = cond m false (no_member ms)
+no_member ms = list_all not ms
 
 -- a group has this order
 abbrev pub has_order : ℕ → List GroupData → Bool
-has_order o [] = false
-has_order o (g ∷ gs) = g.order == o || has_order o gs
+has_order o gs = list_any (λ g. g.order == o) gs
 
 -- why a group is refused by itself, the topmost cause first
 abbrev pub shape_cause : GroupData → Option Refusal
@@ -50,9 +49,7 @@ with_group g gs = insert drawn_first g gs
 
 -- the group at a place, counted from 0
 abbrev pub group_at : List GroupData → ℕ → Option GroupData
-group_at [] k = None
-group_at (g ∷ gs) zero = Some g
-group_at (g ∷ gs) (suc k) = group_at gs k
+group_at gs k = slice_get gs k
 
 -- groups stand by ascending order, no two alike
 abbrev pub InOrder : List GroupData → Type 0

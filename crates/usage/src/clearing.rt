@@ -4,7 +4,8 @@ ghost use Rattle.usage.specs.UsesLists.{cleared};
 ghost use Rattle.usage.specs.Groups.{no_member};
 
 use crate::seats::Seats;
-use crate::uses::{SEATS, Uses};
+use crate::uses::Uses;
+use std::array;
 
 impl Seats {
     /// The set of the seats that are flagged.
@@ -18,23 +19,14 @@ impl Seats {
     pub fn contains(&self, seat: usize) -> bool
         ensures { result ≡ slice_index_or self.now.flags seat false }
     {
-        if seat < SEATS {
-            self.flags[seat]
-        } else {
-            false
-        }
+        self.flags.get(seat).copied().unwrap_or(false)
     }
 
     /// Whether no seat is in the set.
     pub fn is_empty(&self) -> bool
         ensures { result ≡ no_member self.now.flags }
     {
-        for flag in &self.flags {
-            if *flag {
-                return false;
-            }
-        }
-        true
+        self.flags.iter().all(|flag| !flag)
     }
 }
 
@@ -43,12 +35,11 @@ impl Uses {
     pub fn without(self, seats: &Seats) -> Uses
         ensures { result.parts ≡ cleared seats.now.flags self.parts }
     {
-        let mut parts = self.parts;
-        for i in 0..16 {
-            if seats.flags[i] {
-                parts[i] = 0;
-            }
-        }
+        let parts: [u32; 16] = array::from_fn(|seat| if seats.flags[seat] {
+            0
+        } else {
+            self.parts[seat]
+        });
         Uses { parts }
     }
 }

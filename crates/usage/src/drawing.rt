@@ -1,6 +1,6 @@
 //! One group: what it takes to make one, and how it is drawn.
 ghost use Rattle.std.specs.Prelude.{◌≡◌, ◌≤◌, Some, None, MatchResult};
-ghost use Rattle.usage.specs.Drawing.{used, drawn};
+ghost use Rattle.usage.specs.Drawing.{used, used_at, drawn};
 ghost use Rattle.usage.specs.Groups.{group_data, data_of, shape_cause};
 ghost use Rattle.usage.specs.Laws.{FairDraw};
 
@@ -8,6 +8,7 @@ use crate::group::{Group, MOST_UNITS};
 use crate::refusing::Refusal;
 use crate::seats::Seats;
 use crate::uses::Uses;
+use std::array;
 
 impl Group {
     /// The group of these members, units and order: refused with 34 without a member, with 32 over 1,600,000 units.
@@ -37,6 +38,7 @@ impl Group {
             return uses;
         }
         let q = s.min(self.units as u64 * 1000);
+        // Members, uses and parts left are walked in step with two running values: the seat's number is the plainest.
         let mut parts = [0; 16];
         let mut p: u64 = 0;
         let mut before: u64 = 0;
@@ -59,13 +61,9 @@ impl Group {
         ensures is { result ≡ used self.now.members.flags uses.now.parts }
         ensures bound { result ≤ 1600000000 }
     {
-        let mut sum: u64 = 0;
-        for i in 0..16 {
-            if self.members.flags[i] {
-                sum += uses.parts[i] as u64;
-            }
-        }
-        sum
+        let flags = self.members.flags;
+        let each: [u64; 16] = array::from_fn(|seat| used_at(flags[seat], uses.parts[seat]));
+        each.iter().sum()
     }
 
     /// The seats that share the units.
@@ -89,4 +87,11 @@ impl Group {
     {
         self.order
     }
+}
+
+// What a seat adds to the sum: its use, if it is a member.
+fn used_at(member: bool, parts: u32) -> u64
+    ensures is { result ≡ used_at member parts }
+{
+    if member { u64::from(parts) } else { 0 }
 }

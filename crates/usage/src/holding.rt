@@ -1,22 +1,32 @@
 //! The groups of one plan or option: how one is added, and how all are drawn.
-ghost use Rattle.std.specs.Prelude.{◌≡◌, ◌≤◌, [], map, length, Some, None, MatchResult};
+ghost use Rattle.std.specs.Prelude.{◌≡◌, ◌≤◌, ◌==◌, [], map, take, length, Some, None, MatchResult};
 ghost use Rattle.std.specs.Option.{option_map};
+ghost use Rattle.std.specs.List.{list_any};
 ghost use Rattle.usage.specs.Orders.{lower};
-ghost use Rattle.usage.specs.Groups.{group_data, data_of, group_cause, with_group, has_order, drawn_all, group_at, InOrder};
+ghost use Rattle.usage.specs.Groups.{group_data, data_of, group_cause, with_group, drawn_all, group_at, InOrder};
 ghost use Rattle.usage.specs.Held.{held};
+ghost use Rattle.usage.specs.declared.refusing.Refusal.TheVariants.{NinthGroup};
 
 use crate::group::Group;
 use crate::groups::{Groups, MOST_GROUPS};
 use crate::refusing::Refusal;
 use crate::seats::Seats;
 use crate::uses::Uses;
-use ordered::{Ranked, put};
+use ordered::{Full, Ranked, put};
 
 impl Ranked for Group {
     ghost before = { lower };
 
     fn is_before(&self, other: &Group) -> bool {
         self.order < other.order
+    }
+}
+
+impl From<Full> for Refusal {
+    ghost from_gives = { λ _ r. r ≡ NinthGroup };
+
+    fn from(_full: Full) -> Refusal {
+        Refusal::NinthGroup
     }
 }
 
@@ -45,18 +55,15 @@ impl Groups {
         if self.count >= MOST_GROUPS {
             return Err(Refusal::NinthGroup);
         }
-        let count = self.count;
-        if uses_order(&self.entries[0..count], order) {
+        if uses_order(self.entries(), order) {
             return Err(Refusal::OrderUsed);
         }
         let mut entries = self.entries;
-        match put(&mut entries, self.count, group) {
-            Ok(()) => Ok(Groups {
-                entries,
-                count: self.count + 1,
-            }),
-            Err(_) => Err(Refusal::NinthGroup),
-        }
+        put(&mut entries, self.count, group)?;
+        Ok(Groups {
+            entries,
+            count: self.count + 1,
+        })
     }
 
     /// How many groups there are: at most 8, by ascending order, no two orders alike.
@@ -72,32 +79,30 @@ impl Groups {
     pub fn group(&self, at: usize) -> Option<Group>
         ensures { option_map data_of result ≡ group_at (held self.now) at }
     {
-        if at < self.count {
-            Some(self.entries[at])
-        } else {
-            None
-        }
+        self.entries().get(at).copied()
     }
 
     /// The list of uses after all groups were drawn, by ascending order.
     pub fn draw(&self, uses: Uses) -> Uses
         ensures { result.parts ≡ drawn_all (held self.now) uses.parts }
     {
+        draw_each(self.entries(), uses)
+    }
+
+    // The groups, by ascending order.
+    fn entries(&self) -> &[Group]
+        ensures { result.now ≡ take self.now.count self.now.entries }
+    {
         let count = self.count;
-        draw_each(&self.entries[0..count], uses)
+        &self.entries[0..count]
     }
 }
 
 // Whether one of these groups has this order.
 fn uses_order(groups: &[Group], order: u8) -> bool
-    ensures { result ≡ has_order order (map data_of groups.now) }
+    ensures { result ≡ list_any (λ g. g.order == order) groups.now }
 {
-    for group in groups {
-        if group.order == order {
-            return true;
-        }
-    }
-    false
+    groups.iter().any(|group| group.order == order)
 }
 
 // The list of uses after these groups were drawn, one after the other.

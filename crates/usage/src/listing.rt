@@ -32,10 +32,5 @@ impl Uses {
 fn are_small(numbers: &[u32]) -> bool
     ensures { result ≡ small numbers.now }
 {
-    for number in numbers {
-        if *number > MOST_PARTS {
-            return false;
-        }
-    }
-    true
+    numbers.iter().all(|number| *number <= MOST_PARTS)
 }
