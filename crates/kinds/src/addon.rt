@@ -40,10 +40,7 @@ impl<T: Tariff> Tariff for AddOn<T> {
     ghost above = { λ t us u. addon_above (table_data t.table) (T.Tariff.charged t.below) (T.Tariff.floor t.below) us (T.Tariff.above t.below _ (cleared_uses (priced_seats (table_data t.table).prices) us u)) };
 
     fn serves(&self, seat: usize) -> bool {
-        match self.table.price(seat) {
-            Some(_) => true,
-            None => self.below.serves(seat),
-        }
+        self.table.price(seat).is_some() || self.below.serves(seat)
     }
 
     fn draw(&self, uses: Uses) -> Uses {

@@ -1,57 +1,66 @@
--- Turns of the loops over seats. Assumes nothing.
-use Rattle.std.proofs.Common.{◌≡◌, ℕ, zero, suc, ◌+◌, ◌-◌, ◌*◌, ◌<◌, ◌≤◌, false, List, [], ◌∷◌, map, length, get_or, drop, replicate, is_some, Some, None, Option, refl, ap, div-lt_iff_lt-mul, add-mul, mul-le-mul, mul-le-mul_left, one-mul, arith}
+-- Sums over seats, and what has a price or a block, by their numbers. Assumes nothing.
+use Rattle.std.proofs.Common.{◌≡◌, ℕ, zero, suc, ◌+◌, ◌*◌, ◌<◌, ◌≤◌, false, List, [], ◌∷◌, map, length, get_or, drop, replicate, is_some, Some, None, Option, refl, ap, mul-le-mul, arith, ◌∙◌, suc-mul}
 use Rattle.std.proofs.lemmas.List.{drop_more, at_drop_all}
 use Rattle.prices.specs.declared.amounts.UnitPrice.{UnitPrice}
 use Rattle.prices.specs.declared.block.Block.{Block}
+use Rattle.prices.specs.OverSeats.{over_seats, entry_cost}
+use Rattle.prices.specs.Laws.{block_within}
 use Rattle.prices.specs.Tables.{price_of, has_price, seat_cost, priced_cost, without_priced}
-use Rattle.prices.specs.Blocks.{block_of, started, block_cost, blocks_cost}
+use Rattle.prices.specs.Blocks.{block_of, started, block_cost}
 
--- a sum over seats of what a thing at the seat makes of the use there
-abbrev pub seat_sum : {X Y : Type 0} → (X → Y) → (Y → ℕ → ℕ) → List X → List ℕ → ℕ
-seat_sum of cost [] us = 0
-seat_sum of cost (x ∷ xs) [] = 0
-seat_sum of cost (x ∷ xs) (u ∷ us) = cost (of x) u + seat_sum of cost xs us
+-- a sum over seats is the same by the numbers of what stands there
+pub sum_by_data : {X Y : Type 0} (of : X → Y) (cost : Y → ℕ → ℕ) (own : X → ℕ → ℕ) → ((x : X) (u : ℕ) → own x u ≡ cost (of x) u)
+    → (xs : List X) (us : List ℕ) → over_seats own xs us ≡ over_seats cost (map of xs) us
+sum_by_data of cost own same [] us = refl
+sum_by_data of cost own same (x ∷ xs) [] = refl
+sum_by_data of cost own same (x ∷ xs) (u ∷ us) = ap (λ n. n + over_seats own xs us) (same x u) ∙ ap (λ n. cost (of x) u + n) (sum_by_data of cost own same xs us)
 
-module _ {X Y : Type 0} (of : X → Y) (cost : Y → ℕ → ℕ) where
+suc-mul-here : (n most : ℕ) → suc n * most ≡ most + n * most
+suc-mul-here n most = rw suc-mul (omega arith)
+
+-- a sum over seats stays within so much for each
+pub sum_most : {X : Type 0} (cost : X → ℕ → ℕ) (most : ℕ) → ((x : X) (u : ℕ) → u ≤ 100000000 → cost x u ≤ most)
+    → (xs : List X) (us : List ℕ) → ((k : ℕ) → get_or us k 0 ≤ 100000000) → over_seats cost xs us ≤ length us * most
+sum_most cost most each [] us low = omega arith
+sum_most cost most each (x ∷ xs) [] low = omega arith
+sum_most cost most each (x ∷ xs) (u ∷ us) low =
+    let more = sum_most cost most each xs us (λ k. low (suc k)) in
+    omega (arith, each x u (low 0), suc-mul-here (length us) most)
+
+module _ {X : Type 0} (cost : X → ℕ → ℕ) where
   -- one seat more
   pub sum_more : (xs : List X) (us : List ℕ) (i sum : ℕ) (d : X) → i < length xs → i < length us
-      → sum + seat_sum of cost (drop i xs) (drop i us) ≡ seat_sum of cost xs us
-      → (sum + cost (of (get_or xs i d)) (get_or us i 0)) + seat_sum of cost (drop (i + 1) xs) (drop (i + 1) us) ≡ seat_sum of cost xs us
+      → sum + over_seats cost (drop i xs) (drop i us) ≡ over_seats cost xs us
+      → (sum + cost (get_or xs i d) (get_or us i 0)) + over_seats cost (drop (i + 1) xs) (drop (i + 1) us) ≡ over_seats cost xs us
   sum_more xs us i sum d h k so =
-      let e : seat_sum of cost (drop i xs) (drop i us) ≡ cost (of (get_or xs i d)) (get_or us i 0) + seat_sum of cost (drop (i + 1) xs) (drop (i + 1) us) =
+      let e : over_seats cost (drop i xs) (drop i us) ≡ cost (get_or xs i d) (get_or us i 0) + over_seats cost (drop (i + 1) xs) (drop (i + 1) us) =
       rw (drop_more xs i d h, drop_more us i 0 k) in
       omega arith
 
   -- no seat left
-  pub sum_all : (xs : List X) (us : List ℕ) (i sum : ℕ) → length xs ≤ i
-      → sum + seat_sum of cost (drop i xs) (drop i us) ≡ seat_sum of cost xs us → sum ≡ seat_sum of cost xs us
+  pub sum_all : (xs : List X) (us : List ℕ) (i sum : ℕ) → length xs ≤ i → sum + over_seats cost (drop i xs) (drop i us) ≡ over_seats cost xs us
+      → sum ≡ over_seats cost xs us
   sum_all xs us i sum h so =
-      let e : seat_sum of cost (drop i xs) (drop i us) ≡ 0 = at_drop_all (λ ys. seat_sum of cost ys (drop i us)) xs i h in
+      let e : over_seats cost (drop i xs) (drop i us) ≡ 0 = at_drop_all (λ ys. over_seats cost ys (drop i us)) xs i h in
       omega arith
 
-pub priced_is : (ps : List (Option UnitPrice)) (us : List ℕ) → seat_sum price_of seat_cost ps us ≡ priced_cost (map price_of ps) us
-priced_is [] us = refl
-priced_is (p ∷ ps) [] = refl
-priced_is (p ∷ ps) (u ∷ us) = ap (λ n. seat_cost (price_of p) u + n) (priced_is ps us)
+-- an entry costs the same by its numbers
+pub price_same : (p : Option UnitPrice) (u : ℕ) → entry_cost (λ (q : UnitPrice) v. v * q.price) p u ≡ seat_cost (price_of p) u
+price_same None u = refl
+price_same (Some p) u = refl
 
-pub blocks_is : (bs : List (Option Block)) (us : List ℕ) → seat_sum block_of block_cost bs us ≡ blocks_cost (map block_of bs) us
-blocks_is [] us = refl
-blocks_is (b ∷ bs) [] = refl
-blocks_is (b ∷ bs) (u ∷ us) = ap (λ n. block_cost (block_of b) u + n) (blocks_is bs us)
+pub block_same : (b : Option Block) (u : ℕ) → entry_cost (λ (d : Block) v. started v d.parts * (d.price.price * 1000)) b u ≡ block_cost (block_of b) u
+block_same None u = refl
+block_same (Some b) u = refl
 
 -- a seat costs at most 100,000,000 parts at the highest price
-pub seat_most : (p : Option UnitPrice) (u : ℕ) → u ≤ 100000000 → seat_cost (price_of p) u ≤ 100000000000000
+pub seat_most : (p : Option UnitPrice) (u : ℕ) → u ≤ 100000000 → entry_cost (λ (q : UnitPrice) v. v * q.price) p u ≤ 100000000000000
 seat_most None u h = omega arith
 seat_most (Some p) u h = mul-le-mul h p.low
 
--- no more blocks are started than there are thousands of parts, and one
-pub started_le : (u b m : ℕ) → 1000 ≤ b → u ≤ m * 1000 → started u b ≤ m
-started_le u b m h l =
-    let p : m * 1000 ≤ m * b = mul-le-mul_left m h in
-    let below : u + (b - 1) < (m + 1) * b = rw (add-mul, one-mul) (omega arith) in
-    let pos : 0 < b = omega arith in
-    let q : started u b < m + 1 = (div-lt_iff_lt-mul pos).1 below in
-    omega arith
+pub block_most : (b : Option Block) (u : ℕ) → u ≤ 100000000 → entry_cost (λ (d : Block) v. started v d.parts * (d.price.price * 1000)) b u ≤ 5000000000000000
+block_most None u h = omega arith
+block_most (Some b) u h = block_within b u (omega arith)
 
 -- the seats that have a price, by their numbers
 pub is_some_price : (ps : List (Option UnitPrice)) → map is_some ps ≡ map is_some (map price_of ps)

@@ -1,5 +1,6 @@
 -- Started blocks. Assumes nothing.
-use Rattle.std.specs.Prelude.{ℕ, ◌+◌, ◌-◌, ◌*◌, ◌/◌, ◌≤◌, Bool, List, [], ◌∷◌, map, is_some, Some, None, Option, slice_index_or}
+use Rattle.std.specs.Prelude.{ℕ, ◌+◌, ◌-◌, ◌*◌, ◌/◌, ◌≤◌, Bool, List, map, is_some, Some, None, Option, slice_index_or}
+use Rattle.prices.specs.OverSeats.{over_seats, entry_cost}
 use Rattle.prices.specs.declared.block.Block.{Block}
 use Rattle.prices.specs.declared.blocks.BlockTable.{BlockTable}
 
@@ -29,11 +30,8 @@ started u b = (u + (b - 1)) / b
 
 -- what the blocks cost that so many parts start at a seat: the block price times 1,000 is a total
 abbrev pub block_cost : Option BlockData → ℕ → ℕ
-block_cost None u = 0
-block_cost (Some b) u = started u b.parts * (b.price * 1000)
+block_cost b u = entry_cost (λ d v. started v d.parts * (d.price * 1000)) b u
 
 -- every started block of every seat
 abbrev pub blocks_cost : List (Option BlockData) → List ℕ → ℕ
-blocks_cost [] us = 0
-blocks_cost (b ∷ bs) [] = 0
-blocks_cost (b ∷ bs) (u ∷ us) = block_cost b u + blocks_cost bs us
+blocks_cost bs us = over_seats block_cost bs us

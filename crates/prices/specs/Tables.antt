@@ -1,8 +1,9 @@
 -- Tables of prices, by their numbers. Assumes nothing.
-use Rattle.std.specs.Prelude.{ℕ, ◌+◌, ◌*◌, Bool, List, [], ◌∷◌, map, replicate, is_some, Some, None, Option, slice_index_or}
+use Rattle.std.specs.Prelude.{ℕ, ◌*◌, Bool, List, [], map, replicate, is_some, Some, None, Option, slice_index_or}
 use Rattle.usage.specs.Groups.{GroupData}
 use Rattle.usage.specs.Held.{held}
 use Rattle.usage.specs.UsesLists.{cleared}
+use Rattle.prices.specs.OverSeats.{over_seats, entry_cost}
 use Rattle.prices.specs.declared.amounts.UnitPrice.{UnitPrice}
 use Rattle.prices.specs.declared.table.PriceTable.{PriceTable}
 
@@ -32,14 +33,11 @@ has_price ps k = is_some (slice_index_or ps k None)
 
 -- what so many parts cost at a seat
 abbrev pub seat_cost : Option ℕ → ℕ → ℕ
-seat_cost None parts = 0
-seat_cost (Some price) parts = parts * price
+seat_cost p parts = entry_cost (λ price u. u * price) p parts
 
 -- each priced seat's parts times its price
 abbrev pub priced_cost : List (Option ℕ) → List ℕ → ℕ
-priced_cost [] us = 0
-priced_cost (p ∷ ps) [] = 0
-priced_cost (p ∷ ps) (u ∷ us) = seat_cost p u + priced_cost ps us
+priced_cost ps us = over_seats seat_cost ps us
 
 -- the seats that have a price
 abbrev pub priced_seats : List (Option ℕ) → List Bool

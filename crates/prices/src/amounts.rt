@@ -7,6 +7,8 @@ pub const MOST_SUM: u32 = 1_000_000;
 /// The largest unit price, in ten-thousandths of the currency.
 pub const MOST_PRICE: u32 = 1_000_000;
 
+// Sums and unit prices are two types, so that neither is taken for the other: they differ in unit and in what they charge.
+
 /// A fixed sum, in hundredths of the currency.
 #[derive(Clone, Copy)]
 pub struct FixedSum {

@@ -3,11 +3,11 @@ ghost use Rattle.std.specs.Prelude.{◌≡◌, ◌*◌, ◌≤◌, map, None, sl
 ghost use Rattle.std.specs.Option.{option_map};
 ghost use Rattle.usage.specs.Groups.{drawn_all};
 ghost use Rattle.usage.specs.Held.{held};
-ghost use Rattle.prices.specs.Tables.{price_of, price_data, priced_cost, priced_seats, table_data, empty_table, seat_cost};
+ghost use Rattle.prices.specs.Tables.{priced_cost, priced_seats, table_data, empty_table};
 
 use crate::amounts::{FixedSum, UnitPrice};
+use crate::over_seats::cost_over_seats;
 use crate::table::PriceTable;
-use usage::uses::SEATS;
 use usage::{Groups, Seats, Uses};
 
 impl PriceTable {
@@ -51,21 +51,14 @@ impl PriceTable {
     pub fn price(&self, seat: usize) -> Option<UnitPrice>
         ensures { result ≡ slice_index_or self.now.prices seat None }
     {
-        if seat < SEATS {
-            self.prices[seat]
-        } else {
-            None
-        }
+        self.prices.get(seat).copied().flatten()
     }
 
     /// The seats that have a price.
     pub fn priced(&self) -> Seats
         ensures { result.flags ≡ priced_seats (table_data self.now).prices }
     {
-        let mut flags = [false; 16];
-        for seat in 0..16 {
-            flags[seat] = self.prices[seat].is_some();
-        }
+        let flags = self.prices.map(|price| price.is_some());
         Seats::new(flags)
     }
 
@@ -74,12 +67,7 @@ impl PriceTable {
         ensures is { result ≡ priced_cost (table_data self.now).prices uses.now.parts }
         ensures bound { result ≤ 1600000000000000 }
     {
-        let parts = uses.parts();
-        let mut sum: u64 = 0;
-        for seat in 0..16 {
-            sum += seat_cost(self.prices[seat], parts[seat]);
-        }
-        sum
+        cost_over_seats(&self.prices, &uses.parts())
     }
 
     /// The list of uses after the table's groups were drawn, by ascending order.
@@ -87,15 +75,5 @@ impl PriceTable {
         ensures { result.parts ≡ drawn_all (table_data self.now).groups uses.parts }
     {
         self.groups.draw(uses)
-    }
-}
-
-// What so many parts cost at a price, or none.
-fn seat_cost(price: Option<UnitPrice>, parts: u32) -> u64
-    ensures { result ≡ seat_cost (price_of price) parts }
-{
-    match price {
-        Some(p) => parts as u64 * p.price as u64,
-        None => 0,
     }
 }

@@ -11,9 +11,7 @@ impl FixedSum {
     pub fn new(hundredths: u32) -> Result<FixedSum, Refusal>
         ensures { MatchResult result (λ s. (hundredths ≤ 1000000) × (s.hundredths ≡ hundredths)) (λ e. (1000000 < hundredths) × (e ≡ OutOfRange)) }
     {
-        if hundredths > MOST_SUM {
-            return Err(Refusal::OutOfRange);
-        }
+        let hundredths = in_range(hundredths, 0, MOST_SUM)?;
         Ok(FixedSum { hundredths })
     }
 
@@ -30,7 +28,7 @@ impl FixedSum {
         ensures is { result ≡ fixed_part self.now.hundredths }
         ensures bound { result ≤ 100000000000 }
     {
-        100_000 * self.hundredths as u64
+        100_000 * u64::from(self.hundredths)
     }
 }
 
@@ -39,9 +37,7 @@ impl UnitPrice {
     pub fn new(price: u32) -> Result<UnitPrice, Refusal>
         ensures { MatchResult result (λ p. (price ≤ 1000000) × (p.price ≡ price)) (λ e. (1000000 < price) × (e ≡ OutOfRange)) }
     {
-        if price > MOST_PRICE {
-            return Err(Refusal::OutOfRange);
-        }
+        let price = in_range(price, 0, MOST_PRICE)?;
         Ok(UnitPrice { price })
     }
 
@@ -51,5 +47,16 @@ impl UnitPrice {
         ensures bound { result ≤ 1000000 }
     {
         self.price
+    }
+}
+
+// The number, if it is from the least to the most: refused with 32 else.
+pub(crate) fn in_range(number: u32, least: u32, most: u32) -> Result<u32, Refusal>
+    ensures { MatchResult result (λ n. ((least ≤ number) × (number ≤ most)) × (n ≡ number)) (λ e. ((least ≤ number) × (number ≤ most) → ⊥) × (e ≡ OutOfRange)) }
+{
+    if (least..=most).contains(&number) {
+        Ok(number)
+    } else {
+        Err(Refusal::OutOfRange)
     }
 }

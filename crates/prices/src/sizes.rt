@@ -5,6 +5,7 @@ ghost use Rattle.prices.specs.Blocks.{BlockRange};
 
 use crate::amounts::UnitPrice;
 use crate::block::{Block, LEAST_BLOCK, MOST_BLOCK};
+use crate::ranges::in_range;
 use usage::Refusal;
 
 impl Block {
@@ -12,9 +13,7 @@ impl Block {
     pub fn new(parts: u32, price: UnitPrice) -> Result<Block, Refusal>
         ensures { MatchResult result (λ b. BlockRange parts × ((b.parts ≡ parts) × (b.price ≡ price))) (λ e. (BlockRange parts → ⊥) × (e ≡ OutOfRange)) }
     {
-        if parts < LEAST_BLOCK || parts > MOST_BLOCK {
-            return Err(Refusal::OutOfRange);
-        }
+        let parts = in_range(parts, LEAST_BLOCK, MOST_BLOCK)?;
         Ok(Block { parts, price })
     }
 
