@@ -1,10 +1,12 @@
 -- End services and their seats. Assumes nothing.
-use Rattle.std.proofs.Common.{◌≡◌, ℕ, zero, suc, ◌+◌, ◌<◌, ◌≤◌, Bool, true, false, cond, not, eqb, ltb, List, length, Some, None, Decides, Option, sym, refl, ◌∙◌, inl, inr, add-zero, add-one, arith, MatchOption}
-use Rattle.std.specs.List.{HoldsAt, IsAnyAnswer}
+use Rattle.std.proofs.Common.{◌≡◌, ℕ, zero, suc, ◌+◌, ◌<◌, ◌≤◌, Bool, true, false, cond, not, eqb, ltb, List, [], ◌∷◌, map, sum, sum_by, length, Some, None, Decides, Option, sym, refl, ap, ◌∙◌, inl, inr, add-zero, add-one, arith, MatchOption}
+use Rattle.std.specs.List.{HoldsAt, IsAnyAnswer, range_with_len}
 use Rattle.std.proofs.lemmas.List.Elements.{contains_decides}
 use Rattle.std.proofs.lemmas.List.{get_or_default}
 use Rattle.std.proofs.lemmas.Bool.Decides.{Decides-by_or, Decides-eqb, same_from_decides}
 use Rattle.std.proofs.lemmas.Bool.{and_parts, and_from, and_left, and_right, not-true, not_from_false, not_from_true, eqb-true, eq-eqb, ne_eqb, both_ways, cases_order, cases_Bool, ltb-true, lt-ltb}
+use Rattle.std.proofs.lemmas.List.Sums.{sum-map, sum_by-append, sum_by-cons}
+use Rattle.std.proofs.lemmas.List.FromFn.{map-range_with_len_more}
 use Rattle.refusal.proofs.Lowest.{lowest_tells, Answers}
 use Rattle.tree.specs.Trees.{parent, among, ends_below, is_end, seat_of, has_seat, end_at, EndService, Seat, Seating}
 
@@ -47,11 +49,22 @@ seat_by ps n false e = λ x. both_ways (is_end ps n) e ((decides_end ps n).1 x)
 pub seat_said : (ps : List ℕ) (n : ℕ) → MatchOption (seat_of ps n) (EndService ps n → ⊥) (Seat ps n)
 seat_said ps n = seat_by ps n (is_end ps n) refl
 
+-- one number more
+ends_next : (n : ℕ) (ps : List ℕ) → ends_below (n + 1) ps ≡ ends_below n ps + cond (not (among n ps)) 1 0
+ends_next n ps =
+    let f = λ (k : ℕ). cond (not (among k ps)) 1 0 in
+    let a = sum-map f (range_with_len 0 (n + 1)) in
+    let b = ap sum (map-range_with_len_more f 0 n n (omega arith)) in
+    let c = sum_by-append (λ x. x) (map f (range_with_len 0 n)) (f n ∷ []) in
+    let d = sum-map f (range_with_len 0 n) in
+    let e = sum_by-cons (λ x. x) (f n) [] in
+    sym a ∙ b ∙ c ∙ ap (λ m. m + sum_by (λ x. x) (f n ∷ [])) d ∙ ap (λ m. ends_below n ps + m) (e ∙ add-zero (f n))
+
 pub ends_same : (n : ℕ) (ps : List ℕ) → among n ps ≡ true → ends_below (n + 1) ps ≡ ends_below n ps
-ends_same n ps e = rw (add-one, e) (add-zero (ends_below n ps))
+ends_same n ps e = ends_next n ps ∙ rw e (add-zero (ends_below n ps))
 
 pub ends_more : (n : ℕ) (ps : List ℕ) → among n ps ≡ false → ends_below (n + 1) ps ≡ ends_below n ps + 1
-ends_more n ps e = rw (add-one, e) refl
+ends_more n ps e = ends_next n ps ∙ rw e refl
 
 -- the test for the end service of a seat
 pub seat_here : (ps : List ℕ) (s n : ℕ) → among n ps ≡ false → ends_below n ps ≡ s → has_seat ps s n ≡ true
@@ -85,6 +98,7 @@ seated_by ps s = seated_from ps s (end_at ps s) (lowest_tells (has_seat ps s) (�
 ends_grow : (ps : List ℕ) (m n : ℕ) → m ≤ n → ends_below m ps ≤ ends_below n ps
 ends_grow ps m zero h = let e : m ≡ 0 = omega arith in rw e (omega arith)
 ends_grow ps m (suc n) h =
+    let next = rw add-one at (ends_next n ps) in
     elim (cases_order m (suc n)) [
       | inl e ↦ rw e (omega arith)
       | inr o ↦ elim o [ inl lt ↦ let g = ends_grow ps m n (omega arith) in omega arith | inr gt ↦ absurd (omega arith) ]
@@ -115,9 +129,9 @@ taken_by : (ps : List ℕ) (s n : ℕ) → n ≤ length ps → s < ends_below n 
 taken_by ps s zero l h = absurd (omega arith)
 taken_by ps s (suc n) l h =
     elim (cases_Bool (among n ps)) [
-      | inl t ↦ taken_by ps s n (omega arith) (let e : ends_below (suc n) ps ≡ ends_below n ps = rw t (add-zero (ends_below n ps)) in omega arith)
+      | inl t ↦ taken_by ps s n (omega arith) (let e : ends_below (suc n) ps ≡ ends_below n ps = rw add-one at (ends_same n ps t) in omega arith)
       | inr f ↦
-          let e : ends_below (suc n) ps ≡ ends_below n ps + 1 = rw f refl in
+          let e : ends_below (suc n) ps ≡ ends_below n ps + 1 = rw add-one at (ends_more n ps f) in
           elim (cases_order s (ends_below n ps)) [
             | inl q ↦ (n, record { end_service = end_from ps n (omega arith) f; ends_lower = sym q })
             | inr o ↦ elim o [ inl lt ↦ taken_by ps s n (omega arith) lt | inr gt ↦ absurd (omega arith) ]

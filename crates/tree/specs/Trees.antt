@@ -1,6 +1,7 @@
 -- The service tree, as the list of its nodes' parents: the parent of node n stands at place n, and 255 stands for none.
 -- Assumes nothing.
-use Rattle.std.specs.Prelude.{◌≡◌, ℕ, zero, suc, ◌+◌, ◌<◌, ◌≤◌, Bool, false, cond, not, ◌&&◌, ◌||◌, List, [], ◌∷◌, length, Some, None, Option, ◌==◌, ◌≢◌, nat_lt, slice_index_or}
+use Rattle.std.specs.Prelude.{◌≡◌, ℕ, zero, suc, ◌<◌, ◌≤◌, Bool, cond, not, ◌&&◌, ◌||◌, List, length, Some, None, Option, ◌==◌, ◌≢◌, nat_lt, slice_index_or}
+use Rattle.std.specs.List.{list_any, count_by, range_with_len}
 use Rattle.refusal.specs.Lowest.{lowest}
 
 -- the parent of a node, or 255; what is no node has none
@@ -44,13 +45,11 @@ pub record ShareBranch (ps : List ℕ) (a b : ℕ) : Type 0 where
 
 -- whether a number is in a list; in a list of parents, whether it is a parent
 abbrev pub among : ℕ → List ℕ → Bool
-among n [] = false
-among n (p ∷ ps) = p == n || among n ps
+among n ps = list_any (λ p. p == n) ps
 
 -- of the numbers below n, how many are no parent: up to the number of nodes, the end services
 abbrev pub ends_below : ℕ → List ℕ → ℕ
-ends_below zero ps = 0
-ends_below (suc n) ps = ends_below n ps + cond (among n ps) 0 1
+ends_below n ps = count_by (λ k. not (among k ps)) (range_with_len 0 n)
 
 -- the end service e has the seat s: so many end services are numbered lower
 pub record Seat (ps : List ℕ) (e s : ℕ) : Type 0 where
@@ -66,6 +65,10 @@ pub record Seating (ps : List ℕ) (seats : ℕ) : Type 0 where
 -- each parent is numbered lower than its node, or there is none
 abbrev pub Lower : List ℕ → Type 0
 Lower ps = (n : ℕ) → n < length ps → (parent ps n ≢ 255) → parent ps n < n
+
+-- the same as a test of a node and its parent
+abbrev pub lower_at : ℕ × ℕ → Bool
+lower_at x = x.1 == 255 || nat_lt x.1 x.0
 
 -- the rule of a tree: 1 to 40 nodes, parents numbered lower, at most 16 end services
 pub record TreeRule (ps : List ℕ) : Type 0 where

@@ -2,6 +2,7 @@
 #![tactic(auto)]
 
 pub mod branches;
+pub mod lowest;
 pub mod numbers;
 pub mod opening;
 pub mod refusing;

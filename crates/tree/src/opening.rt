@@ -1,7 +1,8 @@
 //! Service trees from raw lists of parents.
 ghost use Rattle.std.specs.Prelude.{◌≡◌, ◌<◌, ◌≤◌, length, take, Decides, MatchResult};
+ghost use Rattle.std.specs.List.{list_all, enumerate_from};
 ghost use Rattle.tree.specs.declared.refusing.Refusal.TheVariants.{BadTree};
-ghost use Rattle.tree.specs.Trees.{Lower, TreeRule, parent, parent_of};
+ghost use Rattle.tree.specs.Trees.{TreeRule, lower_at, parent, parent_of};
 ghost use Rattle.tree.specs.Held.{parents_of};
 
 use crate::refusing::Refusal;
@@ -20,7 +21,7 @@ impl ServiceTree {
         if !are_lower(parents) {
             return Err(Refusal::BadTree);
         }
-        if end_count(parents, count) > MOST_SEATS {
+        if end_count(parents, count as u8) > MOST_SEATS {
             return Err(Refusal::BadTree);
         }
         Ok(ServiceTree {
@@ -41,14 +42,10 @@ impl ServiceTree {
     pub fn parent(&self, node: u8) -> Option<u8>
         ensures { result ≡ parent_of (parents_of self.now) node }
     {
-        if node as usize >= self.count {
-            return None;
-        }
-        let parent = self.parents[node as usize];
-        if parent == NO_PARENT {
-            return None;
-        }
-        Some(parent)
+        self.parents()
+            .get(usize::from(node))
+            .copied()
+            .filter(|parent| *parent != NO_PARENT)
     }
 
     // The list of parents.
@@ -62,15 +59,10 @@ impl ServiceTree {
 
 // Whether each parent is numbered lower than its node, or is 255.
 fn are_lower(parents: &[u8]) -> bool
-    ensures { Decides result (Lower parents.now) }
+    ensures { result ≡ list_all lower_at (enumerate_from 0 parents.now) }
 {
-    for n in 0..parents.len() {
-        let p = parents[n];
-        if p != NO_PARENT && p as usize >= n {
-            return false;
-        }
-    }
-    true
+    parents.iter().enumerate().all(|(node, parent)| *parent == NO_PARENT
+        || usize::from(*parent) < node)
 }
 
 // The list in a table, filled up with 255.

@@ -1,5 +1,5 @@
 //! End services and their seats.
-ghost use Rattle.std.specs.Prelude.{◌≡◌, ℕ, ◌≤◌, length, Decides, MatchOption};
+ghost use Rattle.std.specs.Prelude.{◌≡◌, ℕ, ◌≤◌, ◌&&◌, ◌==◌, length, Decides, MatchOption};
 ghost use Rattle.tree.specs.Trees.{EndService, Seat, Seating, among, is_end, ends_below, seat_of, end_at};
 ghost use Rattle.tree.specs.Held.{parents_of};
 
@@ -21,7 +21,7 @@ impl ServiceTree {
         ensures few { result ≤ 16 }
         ensures seating { Seating (parents_of self.now) result }
     {
-        let count = self.count;
+        let count = self.count as u8;
         end_count(self.parents(), count)
     }
 
@@ -33,7 +33,7 @@ impl ServiceTree {
         if !self.is_end_service(node) {
             return None;
         }
-        Some(end_count(self.parents(), node as usize) as u8)
+        Some(end_count(self.parents(), node) as u8)
     }
 
     /// The end service of a seat, if the seat is taken.
@@ -41,16 +41,14 @@ impl ServiceTree {
         ensures is { result ≡ end_at (parents_of self.now) seat }
         ensures means { MatchOption result ((e : ℕ) → Seat (parents_of self.now) e seat → ⊥) (λ e. Seat (parents_of self.now) e seat) }
     {
-        let mut passed: u8 = 0;
-        for n in 0..self.count {
-            if !has_child(self.parents(), n as u8) {
-                if passed == seat {
-                    return Some(n as u8);
-                }
-                passed += 1;
-            }
-        }
-        None
+        self.lowest(|node| self.has_seat(node, seat))
+    }
+
+    // Whether a node is the end service of a seat.
+    fn has_seat(&self, node: u8, seat: u8) -> bool
+        ensures { result ≡ (is_end (parents_of self.now) node && ends_below node (parents_of self.now) == seat) }
+    {
+        self.is_end_service(node) && end_count(self.parents(), node) == usize::from(seat)
     }
 }
 
@@ -62,16 +60,9 @@ fn has_child(parents: &[u8], node: u8) -> bool
 }
 
 // How many of the nodes numbered below `upto` are end services.
-pub(crate) fn end_count(parents: &[u8], upto: usize) -> usize
-    requires { upto ≤ 40 }
+pub(crate) fn end_count(parents: &[u8], upto: u8) -> usize
     ensures is { result ≡ ends_below upto parents.now }
     ensures few { result ≤ upto }
 {
-    let mut count: usize = 0;
-    for n in 0..upto {
-        if !has_child(parents, n as u8) {
-            count += 1;
-        }
-    }
-    count
+    (0..upto).filter(|node| !has_child(parents, *node)).count()
 }
