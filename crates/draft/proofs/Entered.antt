@@ -1,12 +1,11 @@
 -- Entries that are granted, and places of groups. Assumes nothing.
-use Rattle.std.proofs.Common.{◌≡◌, ℕ, zero, suc, ◌<◌, ◌≤◌, Bool, false, List, [], ◌∷◌, length, get_or, set, Some, None, Ok, Option, Result, refl, arith}
+use Rattle.std.proofs.Common.{◌≡◌, ℕ, ◌<◌, ◌≤◌, Bool, false, List, length, set, Some, None, Ok, Option, Result, refl}
 use Rattle.std.proofs.lemmas.Bool.{lt-leb, le-ltb}
 use Rattle.refusal.specs.Lowest.{lowest}
-use Rattle.usage.specs.Groups.{GroupData, group_data, group_cause, with_group, group_at}
+use Rattle.usage.specs.Groups.{GroupData, group_data, group_cause, with_group}
 use Rattle.draft.specs.declared.refusing.Refusal.{Refusal}
 use Rattle.draft.specs.Drafts.{DraftData, flagged, members_of}
 use Rattle.draft.specs.Rules.{priced_on_branch, enter_price, strays, shares, enter_group}
-use Rattle.draft.specs.Saving.{member_at}
 
 pub price_ok : (d : DraftData) (node price : ℕ) (prices : List (Option ℕ)) → node < length d.parents → price ≤ 1000000 → lowest (priced_on_branch d node) (length d.parents) ≡ None
     → prices ≡ set d.prices node (Some price)
@@ -19,9 +18,3 @@ pub group_ok : (d : DraftData) (order units : ℕ) (ns : List ℕ) (flags : List
     → flags ≡ flagged ns d.grouped → groups ≡ with_group (group_data (members_of d.parents ns) units order) d.groups
     → ◌≡◌ {A = Result DraftData Refusal} (Ok (record { parents = d.parents; prices = d.prices; grouped = flags; groups = groups })) (enter_group d order units ns)
 group_ok d order units ns flags groups s c e f g = rw (s, c, e, f, g) refl
-
--- a place within the groups
-pub member_there : (s : ℕ) (gs : List GroupData) (k : ℕ) (d : GroupData) → k < length gs → member_at s (group_at gs k) ≡ get_or (get_or gs k d).members s false
-member_there s [] k d h = absurd (omega arith)
-member_there s (g ∷ gs) zero d h = refl
-member_there s (g ∷ gs) (suc k) d h = member_there s gs k d (omega arith)

@@ -1,5 +1,5 @@
 -- Lists of nodes: which they hold, and their flags. Assumes nothing.
-use Rattle.std.proofs.Common.{◌≡◌, ℕ, zero, suc, ◌<◌, ◌≤◌, Bool, true, false, ◌||◌, eqb, leb, ◌≢◌, List, [], ◌∷◌, length, get_or, set, Decides, sym, refl, ◌∙◌, inl, inr, arith}
+use Rattle.std.proofs.Common.{◌≡◌, ℕ, ◌<◌, ◌≤◌, Bool, true, false, ◌||◌, eqb, leb, ◌≢◌, List, [], ◌∷◌, length, get_or, set, Decides, sym, refl, ◌∙◌, inl, inr, arith}
 use Rattle.std.proofs.lemmas.List.{get_or-set_same, get_or-set_other, length-set}
 use Rattle.std.proofs.lemmas.Bool.{or_parts, or_cases, or_left, or_right, or_from, leb-true, leb-false, lt-leb, cases_eq, eqb-true, eq-eqb, ne_eqb, false≢true}
 use Rattle.ordered.specs.Members.{Among}
@@ -34,11 +34,6 @@ one_strays m (k ∷ ks) e =
       | inl t ↦ (k, (inl refl, leb-true m k t))
       | inr t ↦ let r = one_strays m ks t in (r.0, (inr r.1.0, r.1.1))
     ]
-
-pub strays_at : (m : ℕ) (ns : List ℕ) (i : ℕ) → strays m ns ≡ false → i < length ns → get_or ns i 0 < m
-strays_at m [] i e h = absurd (omega arith)
-strays_at m (n ∷ ns) zero e h = leb-false m n (or_parts (leb m n) (strays m ns) e).0
-strays_at m (n ∷ ns) (suc i) e h = strays_at m ns i (or_parts (leb m n) (strays m ns) e).1 (omega arith)
 
 -- nodes of a tree are nodes of a larger one
 pub strays_more : (m k : ℕ) (ns : List ℕ) → m ≤ k → strays m ns ≡ false → strays k ns ≡ false

@@ -1,6 +1,6 @@
 -- What a draft holds, and what an entry makes of it. Assumes nothing.
-use Rattle.std.specs.Prelude.{ℕ, Bool, true, false, ◌||◌, List, [], ◌∷◌, map, replicate, Some, None, Option, slice_set}
-use Rattle.std.specs.List.{range_with_len}
+use Rattle.std.specs.Prelude.{ℕ, Bool, true, false, List, [], ◌∷◌, map, replicate, Some, None, Option, slice_set}
+use Rattle.std.specs.List.{range_with_len, list_any}
 use Rattle.ordered.specs.Members.{Among}
 use Rattle.usage.specs.Groups.{GroupData, group_data, with_group}
 use Rattle.usage.specs.Held.{held}
@@ -35,8 +35,7 @@ flagged (n ∷ ns) flags = flagged ns (slice_set flags n true)
 
 -- whether one of the nodes is on the branch of an end service
 abbrev pub under_some : List ℕ → List ℕ → ℕ → Bool
-under_some ps [] e = false
-under_some ps (n ∷ ns) e = is_under ps e n || under_some ps ns e
+under_some ps ns e = list_any (λ n. is_under ps e n) ns
 
 -- the value of a function at a number, if there is one, and another value if there is none
 abbrev pub if_there : {V : Type 0} → V → (ℕ → V) → Option ℕ → V

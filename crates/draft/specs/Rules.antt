@@ -1,5 +1,6 @@
 -- What a draft answers to an entry, as a computation. Assumes nothing.
-use Rattle.std.specs.Prelude.{ℕ, Bool, false, cond, not, ◌&&◌, ◌||◌, List, [], ◌∷◌, length, is_some, Some, None, Ok, Err, Option, Result, ◌==◌, nat_le, nat_lt, slice_index_or}
+use Rattle.std.specs.Prelude.{ℕ, Bool, false, cond, not, ◌&&◌, List, length, is_some, Some, None, Ok, Err, Option, Result, ◌==◌, nat_le, nat_lt, slice_index_or}
+use Rattle.std.specs.List.{list_any}
 use Rattle.refusal.specs.Lowest.{lowest}
 use Rattle.usage.specs.Groups.{group_data, group_cause}
 use Rattle.usage.specs.declared.refusing.Refusal.TheVariants.{OutOfRange}
@@ -32,8 +33,7 @@ enter_price d node price =
 
 -- whether a list has a number that is no node of a tree with so many
 abbrev pub strays : ℕ → List ℕ → Bool
-strays count [] = false
-strays count (n ∷ ns) = nat_le count n || strays count ns
+strays count ns = list_any (λ n. nat_le count n) ns
 
 -- whether m is another flagged node than n, and shares a branch with it
 abbrev pub meets : List ℕ → List Bool → ℕ → ℕ → Bool

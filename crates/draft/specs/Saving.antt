@@ -1,6 +1,6 @@
 -- What a saved draft is. Assumes nothing.
-use Rattle.std.specs.Prelude.{◌≡◌, ℕ, ◌<◌, Bool, true, false, cond, not, ◌&&◌, ◌||◌, List, [], ◌∷◌, map, length, is_some, Some, None, Ok, Err, Decides, Option, Result, MatchOption, nat_lt, slice_index_or}
-use Rattle.std.specs.List.{range_with_len}
+use Rattle.std.specs.Prelude.{◌≡◌, ℕ, ◌<◌, Bool, true, false, cond, not, ◌&&◌, List, map, length, is_some, Some, None, Ok, Err, Decides, Option, Result, MatchOption, nat_lt, slice_index_or}
+use Rattle.std.specs.List.{list_any, range_with_len}
 use Rattle.refusal.specs.Rows.{RowData, bare}
 use Rattle.refusal.specs.Lowest.{lowest, Lowest}
 use Rattle.ordered.specs.Members.{Among}
@@ -106,8 +106,7 @@ member_at s None = false
 
 -- whether a seat belongs to one of the groups
 abbrev pub in_group : ℕ → List GroupData → Bool
-in_group s [] = false
-in_group s (g ∷ gs) = slice_index_or g.members s false || in_group s gs
+in_group s gs = list_any (λ g. slice_index_or g.members s false) gs
 
 -- whether e is an end service without a price, under a group
 abbrev pub lacks_price : DraftData → ℕ → Bool

@@ -1,7 +1,7 @@
 //! The groups of a draft, at nodes.
-ghost use Rattle.std.specs.Prelude.{◌≡◌, ℕ, ◌<◌, false, length, is_some, Decides, slice_index_or};
+ghost use Rattle.std.specs.Prelude.{◌≡◌, ℕ, ◌<◌, ◌&&◌, false, length, is_some, Decides, slice_index_or};
 ghost use Rattle.refusal.specs.Lowest.{lowest};
-ghost use Rattle.tree.specs.Trees.{among, end_at};
+ghost use Rattle.tree.specs.Trees.{among, end_at, share_branch};
 ghost use Rattle.tree.specs.Held.{parents_of};
 ghost use Rattle.draft.specs.Drafts.{draft_data, flagged, under_some, if_there, members_of, Member};
 ghost use Rattle.draft.specs.Rules.{map_ok, strays, meets, shares, enter_group};
@@ -9,6 +9,7 @@ ghost use Rattle.draft.specs.Rows.{GroupAnswer};
 
 use crate::draft::Draft;
 use crate::refusing::Refusal;
+use std::array;
 use tree::ServiceTree;
 use usage::Seats;
 
@@ -47,12 +48,7 @@ impl Draft {
 fn strays(nodes: &[u8], count: usize) -> bool
     ensures { result ≡ strays count nodes.now }
 {
-    for node in nodes {
-        if *node as usize >= count {
-            return true;
-        }
-    }
-    false
+    nodes.iter().any(|node| usize::from(*node) >= count)
 }
 
 // The flags, and those of these nodes set besides.
@@ -71,10 +67,7 @@ fn flag(nodes: &[u8], flags: [bool; 40]) -> [bool; 40]
 fn members(tree: &ServiceTree, nodes: &[u8]) -> Seats
     ensures { result.flags ≡ members_of (parents_of tree.now) nodes.now }
 {
-    let mut flags = [false; 16];
-    for seat in 0..16 {
-        flags[seat] = is_member(tree, nodes, seat as u8);
-    }
+    let flags = array::from_fn(|seat| is_member(tree, nodes, seat as u8));
     Seats::new(flags)
 }
 
@@ -82,34 +75,22 @@ fn members(tree: &ServiceTree, nodes: &[u8]) -> Seats
 fn is_member(tree: &ServiceTree, nodes: &[u8], seat: u8) -> bool
     ensures { result ≡ if_there false (under_some (parents_of tree.now) nodes.now) (end_at (parents_of tree.now) seat) }
 {
-    match tree.end_service(seat) {
-        Some(end) => is_under_some(tree, nodes, end),
-        None => false,
-    }
+    tree.end_service(seat)
+        .is_some_and(|end| is_under_some(tree, nodes, end))
 }
 
 // Whether a node is under one of these.
 fn is_under_some(tree: &ServiceTree, nodes: &[u8], end: u8) -> bool
     ensures { result ≡ under_some (parents_of tree.now) nodes.now end }
 {
-    for node in nodes {
-        if tree.is_under(end, *node) {
-            return true;
-        }
-    }
-    false
+    nodes.iter().any(|node| tree.is_under(end, *node))
 }
 
 // The lowest of these nodes that shares a branch with another flagged node.
 fn sharer(tree: &ServiceTree, flags: &[bool; 40], nodes: &[u8]) -> Option<u8>
     ensures { result ≡ lowest (shares (parents_of tree.now) flags.now nodes.now) (length (parents_of tree.now)) }
 {
-    for n in 0..tree.nodes() {
-        if holds(nodes, n as u8) && meets_another(tree, flags, n as u8) {
-            return Some(n as u8);
-        }
-    }
-    None
+    tree.lowest(|node| holds(nodes, node) && meets_another(tree, flags, node))
 }
 
 // Whether a node is one of these.
@@ -120,13 +101,16 @@ fn holds(nodes: &[u8], node: u8) -> bool
 }
 
 // Whether a node shares a branch with another flagged node.
-fn meets_another(tree: &ServiceTree, flags: &[bool; 40], n: u8) -> bool
-    ensures { result ≡ is_some (lowest (meets (parents_of tree.now) flags.now n) (length (parents_of tree.now))) }
+fn meets_another(tree: &ServiceTree, flags: &[bool; 40], node: u8) -> bool
+    ensures { result ≡ is_some (lowest (meets (parents_of tree.now) flags.now node) (length (parents_of tree.now))) }
 {
-    for m in 0..tree.nodes() {
-        if m as u8 != n && flags[m] && tree.share_branch(n, m as u8) {
-            return true;
-        }
-    }
-    false
+    tree.lowest(|other| other != node && meets(tree, flags, node, other))
+        .is_some()
+}
+
+// Whether a node is flagged and shares a branch with another.
+fn meets(tree: &ServiceTree, flags: &[bool; 40], node: u8, other: u8) -> bool
+    ensures { result ≡ (slice_index_or flags.now other false && share_branch (parents_of tree.now) node other) }
+{
+    flags.get(usize::from(other)).copied().unwrap_or(false) && tree.share_branch(node, other)
 }

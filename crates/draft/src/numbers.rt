@@ -25,11 +25,7 @@ impl Row for Refusal {
             Refusal::NoSuchNode => None,
             Refusal::Tariff(refusal) => refusal.value(at),
             Refusal::BranchPriced(node) | Refusal::BranchShared(node) | Refusal::NoPrice(node) => {
-                if at == 0 {
-                    Some(Value::Node(node as u64))
-                } else {
-                    None
-                }
+                [Value::Node(u64::from(node))].get(at).copied()
             }
         }
     }

@@ -12,7 +12,6 @@ use crate::draft::Draft;
 use crate::refusing::Refusal;
 use prices::UnitPrice;
 use tree::ServiceTree;
-use tree::tree::MOST_NODES;
 use usage::Groups;
 
 impl Draft {
@@ -41,11 +40,7 @@ impl Draft {
         ensures is { price_of result ≡ slice_index_or (draft_data self.now).prices node None }
         ensures apart { Apart (draft_data self.now).parents (draft_data self.now).prices }
     {
-        if (node as usize) < MOST_NODES {
-            self.prices[node as usize]
-        } else {
-            None
-        }
+        self.prices.get(usize::from(node)).copied().flatten()
     }
 
     /// The draft with one price more, or the topmost cause that refuses it.
@@ -80,11 +75,7 @@ impl Draft {
     fn priced_on_branch(&self, node: u8) -> Option<u8>
         ensures { result ≡ lowest (priced_on_branch (draft_data self.now) node) (length (parents_of self.now.tree)) }
     {
-        for k in 0..self.tree.nodes() {
-            if self.price_at(k as u8).is_some() && self.tree.share_branch(k as u8, node) {
-                return Some(k as u8);
-            }
-        }
-        None
+        self.tree.lowest(|other| self.price_at(other).is_some()
+            && self.tree.share_branch(other, node))
     }
 }

@@ -1,20 +1,20 @@
 //! Saving a draft, as a plan or as an option's table.
-ghost use Rattle.std.specs.Prelude.{◌≡◌, ◌<◌, length, None};
+ghost use Rattle.std.specs.Prelude.{◌≡◌, ◌<◌, false, length, None, slice_index_or, take};
+ghost use Rattle.std.specs.List.{list_any};
 ghost use Rattle.refusal.specs.Lowest.{lowest};
-ghost use Rattle.usage.specs.Groups.{group_at};
-ghost use Rattle.usage.specs.Held.{held};
 ghost use Rattle.prices.specs.Tables.{price_of, price_data, table_data};
 ghost use Rattle.tree.specs.Trees.{end_at};
 ghost use Rattle.tree.specs.Held.{parents_of};
 ghost use Rattle.draft.specs.Drafts.{draft_data, if_there};
 ghost use Rattle.draft.specs.Rules.{map_ok};
-ghost use Rattle.draft.specs.Saving.{AddonAnswer, PlanAnswer, end_price, seat_prices, saved_table, in_group, member_at, lacks_price, save_addon, save_plan};
+ghost use Rattle.draft.specs.Saving.{AddonAnswer, PlanAnswer, end_price, seat_prices, saved_table, lacks_price, save_addon, save_plan};
 ghost use Rattle.draft.specs.Plans.{plan_table};
 
 use crate::draft::Draft;
 use crate::refusing::Refusal;
 use kinds::Plan;
 use prices::{FixedSum, PriceTable, UnitPrice};
+use std::array;
 use usage::Groups;
 
 impl Draft {
@@ -64,76 +64,47 @@ impl Draft {
     fn seat_prices(&self) -> [Option<UnitPrice>; 16]
         ensures { price_data result ≡ seat_prices (draft_data self.now) }
     {
-        let mut prices = [None; 16];
-        for seat in 0..16 {
-            prices[seat] = self.seat_price(seat as u8);
-        }
-        prices
+        array::from_fn(|seat| self.seat_price(seat as u8))
     }
 
     fn seat_price(&self, seat: u8) -> Option<UnitPrice>
         ensures { price_of result ≡ if_there None (end_price (draft_data self.now)) (end_at (parents_of self.now.tree) seat) }
     {
-        match self.tree.end_service(seat) {
-            Some(end) => self.end_price(end),
-            None => None,
-        }
+        let end = self.tree.end_service(seat)?;
+        self.end_price(end)
     }
 
     // The price of an end service: that of the priced node on its branch.
     fn end_price(&self, end: u8) -> Option<UnitPrice>
         ensures { price_of result ≡ end_price (draft_data self.now) end }
     {
-        for k in 0..self.tree.nodes() {
-            let price = self.price_at(k as u8);
-            if price.is_some() && self.tree.is_under(end, k as u8) {
-                return price;
-            }
-        }
-        None
+        let node = self.tree.lowest(|node| self.price_at(node).is_some()
+            && self.tree.is_under(end, node))?;
+        self.price_at(node)
     }
 
     // The lowest end service without a price, under a group.
     fn unpriced(&self) -> Option<u8>
         ensures { result ≡ lowest (lacks_price (draft_data self.now)) (length (parents_of self.now.tree)) }
     {
-        for node in 0..self.tree.nodes() {
-            if self.lacks_price(node as u8) {
-                return Some(node as u8);
-            }
-        }
-        None
+        self.tree.lowest(|node| self.lacks_price(node))
     }
 
     // Whether a node is an end service without a price, under a group.
     fn lacks_price(&self, node: u8) -> bool
         ensures { result ≡ lacks_price (draft_data self.now) node }
     {
-        match self.tree.seat(node) {
-            Some(seat) => in_group(&self.groups, seat) && self.end_price(node).is_none(),
-            None => false,
-        }
+        self.tree.seat(node).is_some_and(|seat| in_group(&self.groups, seat)
+            && self.end_price(node).is_none())
     }
 }
 
 // Whether a seat belongs to one of the groups.
 fn in_group(groups: &Groups, seat: u8) -> bool
-    ensures { result ≡ in_group seat (held groups.now) }
+    ensures { result ≡ list_any (λ g. slice_index_or g.members.flags seat false) (take groups.now.count groups.now.entries) }
 {
-    for at in 0..groups.count() {
-        if has_member(groups, at, seat) {
-            return true;
-        }
-    }
-    false
-}
-
-// Whether a seat belongs to the group at a place.
-fn has_member(groups: &Groups, at: usize, seat: u8) -> bool
-    ensures { result ≡ member_at seat (group_at (held groups.now) at) }
-{
-    match groups.group(at) {
-        Some(group) => group.members().contains(seat as usize),
-        None => false,
-    }
+    groups
+        .entries()
+        .iter()
+        .any(|group| group.members().contains(usize::from(seat)))
 }

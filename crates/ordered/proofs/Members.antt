@@ -31,9 +31,6 @@ module _ {X : Type 0} where
   pub among_take : (x : X) (n : ℕ) (xs : List X) → Among x (take n xs) → Among x xs
   among_take x n xs m = subst (Among x) (take-append-drop n xs) (append_among x (take n xs) (drop n xs) (inl m))
 
-  pub among_drop : (x : X) (n : ℕ) (xs : List X) → Among x (drop n xs) → Among x xs
-  among_drop x n xs m = subst (Among x) (take-append-drop n xs) (append_among x (take n xs) (drop n xs) (inr m))
-
   pub among_get_or : (xs : List X) (k : ℕ) (d : X) → k < length xs → Among (get_or xs k d) xs
   among_get_or [] k d h = absurd (omega arith)
   among_get_or (x ∷ xs) zero d h = inl refl

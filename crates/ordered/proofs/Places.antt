@@ -1,18 +1,11 @@
 -- Lists in order, place by place. Assumes nothing.
-use Rattle.std.proofs.Common.{◌≡◌, ℕ, zero, suc, ◌<◌, Bool, true, List, [], ◌∷◌, map, Some, None, sym, refl, subst, inl, inr, arith}
+use Rattle.std.proofs.Common.{◌≡◌, ℕ, zero, suc, ◌<◌, Bool, true, List, [], ◌∷◌, map, Some, None, sym, refl, subst, arith}
 use Rattle.std.specs.List.{slice_get}
 use Rattle.std.proofs.lemmas.Bool.{and_parts, and_from}
 use Rattle.ordered.specs.Ascending.{all, ascending}
-use Rattle.ordered.specs.Members.{Among}
 
 none_some : {X : Type 0} (x : X) → None ≡ Some x → ⊥
 none_some x e = let z : ◌≡◌ {A = ℕ} 0 1 = cc in omega arith
-
--- what stands at a place is in the list
-pub nth_among : {X : Type 0} (xs : List X) (k : ℕ) (x : X) → slice_get xs k ≡ Some x → Among x xs
-nth_among [] k x e = absurd (none_some x e)
-nth_among (y ∷ ys) zero x e = inl (let s : y ≡ x = cc in sym s)
-nth_among (y ∷ ys) (suc k) x e = inr (nth_among ys k x e)
 
 pub all_nth : {X : Type 0} (p : X → Bool) (xs : List X) → all p xs ≡ true → (k : ℕ) (x : X) → slice_get xs k ≡ Some x → p x ≡ true
 all_nth p [] e k x h = absurd (none_some x h)

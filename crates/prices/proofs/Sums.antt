@@ -68,25 +68,6 @@ is_some_price [] = refl
 is_some_price (None ∷ ps) = ap (λ bs. is_some {T = UnitPrice} None ∷ bs) (is_some_price ps)
 is_some_price (Some p ∷ ps) = ap (λ bs. is_some (Some p) ∷ bs) (is_some_price ps)
 
--- whether a seat has a price, or a block, by the numbers
-pub price_at : (ps : List (Option UnitPrice)) (k : ℕ) → price_of (get_or ps k None) ≡ get_or (map price_of ps) k None
-price_at [] k = refl
-price_at (p ∷ ps) zero = refl
-price_at (p ∷ ps) (suc k) = price_at ps k
-
-pub is_some_of : (p : Option UnitPrice) → is_some p ≡ is_some (price_of p)
-is_some_of None = refl
-is_some_of (Some p) = refl
-
-pub block_at : (bs : List (Option Block)) (k : ℕ) → block_of (get_or bs k None) ≡ get_or (map block_of bs) k None
-block_at [] k = refl
-block_at (b ∷ bs) zero = refl
-block_at (b ∷ bs) (suc k) = block_at bs k
-
-pub is_some_block : (b : Option Block) → is_some b ≡ is_some (block_of b)
-is_some_block None = refl
-is_some_block (Some b) = refl
-
 -- with no prices nothing is priced, costs anything or is set to 0
 pub nothing_priced : (n k : ℕ) → has_price (replicate n None) k ≡ false
 nothing_priced zero k = refl

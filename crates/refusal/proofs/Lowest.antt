@@ -1,11 +1,7 @@
 -- The search for the lowest number that passes a test, and what it tells. Assumes nothing.
-use Rattle.std.proofs.Common.{◌≡◌, ℕ, zero, suc, ◌+◌, ◌<◌, Bool, true, false, cond, is_some, Some, None, Decides, Option, refl, inl, inr, add-one, arith, MatchOption}
+use Rattle.std.proofs.Common.{◌≡◌, ℕ, zero, suc, ◌<◌, Bool, true, false, cond, is_some, Some, None, Decides, Option, refl, inl, inr, arith, MatchOption}
 use Rattle.std.proofs.lemmas.Bool.{cases_eq, both_ways, false≢true}
 use Rattle.refusal.specs.Lowest.{Lowest, or_else, lowest}
-
--- one number more that does not pass
-pub lowest_more : (p : ℕ → Bool) (n : ℕ) → lowest p n ≡ None → p n ≡ false → lowest p (n + 1) ≡ None
-lowest_more p n e f = rw (add-one, e, f) refl
 
 -- the first that passes
 pub lowest_here : (p : ℕ → Bool) (i : ℕ) → lowest p i ≡ None → p i ≡ true → (n : ℕ) → i < n → lowest p n ≡ Some i

@@ -1,10 +1,9 @@
 -- End services and their seats. Assumes nothing.
 use Rattle.std.proofs.Common.{◌≡◌, ℕ, zero, suc, ◌+◌, ◌<◌, ◌≤◌, Bool, true, false, cond, not, eqb, ltb, List, [], ◌∷◌, map, sum, sum_by, length, Some, None, Decides, Option, sym, refl, ap, ◌∙◌, inl, inr, add-zero, add-one, arith, MatchOption}
-use Rattle.std.specs.List.{HoldsAt, IsAnyAnswer, range_with_len}
-use Rattle.std.proofs.lemmas.List.Elements.{contains_decides}
+use Rattle.std.specs.List.{HoldsAt, range_with_len}
 use Rattle.std.proofs.lemmas.List.{get_or_default}
-use Rattle.std.proofs.lemmas.Bool.Decides.{Decides-by_or, Decides-eqb, same_from_decides}
-use Rattle.std.proofs.lemmas.Bool.{and_parts, and_from, and_left, and_right, not-true, not_from_false, not_from_true, eqb-true, eq-eqb, ne_eqb, both_ways, cases_order, cases_Bool, ltb-true, lt-ltb}
+use Rattle.std.proofs.lemmas.Bool.Decides.{Decides-by_or, Decides-eqb}
+use Rattle.std.proofs.lemmas.Bool.{and_parts, and_from, not-true, not_from_false, eqb-true, eq-eqb, both_ways, cases_order, cases_Bool, ltb-true, lt-ltb}
 use Rattle.std.proofs.lemmas.List.Sums.{sum-map, sum_by-append, sum_by-cons}
 use Rattle.std.proofs.lemmas.List.FromFn.{map-range_with_len_more}
 use Rattle.refusal.proofs.Lowest.{lowest_tells, Answers}
@@ -13,10 +12,6 @@ use Rattle.tree.specs.Trees.{parent, among, ends_below, is_end, seat_of, has_sea
 -- the test for a number of a list
 decides_listed : (n : ℕ) (ns : List ℕ) → Decides (among n ns) ((k : ℕ) × (k < length ns) × HoldsAt (λ m. m ≡ n) ns k)
 decides_listed n ns = Decides-by_or (λ m. eqb m n) (λ m. m ≡ n) (among n) (λ m. Decides-eqb m n) refl (λ _ _. refl) ns
-
--- what `contains` answers
-pub contains_among : (n : ℕ) (ns : List ℕ) (r : Bool) → IsAnyAnswer (λ m t. eqb m n ≡ t) ns r → r ≡ among n ns
-contains_among n ns r s = same_from_decides r (among n ns) (contains_decides eqb Decides-eqb ns n r s) (decides_listed n ns)
 
 -- what the test for a parent tells
 pub parent_tells : (n : ℕ) (ps : List ℕ) → among n ps ≡ true → (i : ℕ) × (i < length ps) × (parent ps i ≡ n)
@@ -69,12 +64,6 @@ ends_more n ps e = ends_next n ps ∙ rw e refl
 -- the test for the end service of a seat
 pub seat_here : (ps : List ℕ) (s n : ℕ) → among n ps ≡ false → ends_below n ps ≡ s → has_seat ps s n ≡ true
 seat_here ps s n f e = and_from (not (among n ps)) (eqb (ends_below n ps) s) (not_from_false _ f) (eq-eqb _ _ e)
-
-pub seat_parent : (ps : List ℕ) (s n : ℕ) → among n ps ≡ true → has_seat ps s n ≡ false
-seat_parent ps s n t = and_left (not (among n ps)) (eqb (ends_below n ps) s) (not_from_true _ t)
-
-pub seat_other : (ps : List ℕ) (s n : ℕ) → (ends_below n ps ≡ s → ⊥) → has_seat ps s n ≡ false
-seat_other ps s n ne = and_right (not (among n ps)) (eqb (ends_below n ps) s) (ne_eqb _ _ ne)
 
 decides_seat : (ps : List ℕ) (s n : ℕ) → n < length ps → Decides (has_seat ps s n) (Seat ps n s)
 decides_seat ps s n h = (

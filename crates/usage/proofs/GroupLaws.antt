@@ -3,7 +3,6 @@ use Rattle.std.proofs.Common.{◌≡◌, ℕ, ◌+◌, ◌<◌, ◌≤◌, Bool,
 use Rattle.std.proofs.lemmas.List.{at_drop_more, at_drop_all, get_or-map, length-map, length-take-le, length-append, length-drop}
 use Rattle.std.proofs.lemmas.Bool.{ltb-true, lt-ltb, eqb-false, or_parts, or_right, and_from, cond-true, cond-false, lt-leb, cases_lt}
 use Rattle.std.specs.List.{list_any}
-use Rattle.std.specs.Bool.{◌==◌}
 use Rattle.ordered.specs.Inserting.{insert}
 use Rattle.ordered.specs.Ascending.{all, ascending}
 use Rattle.ordered.proofs.Order.{ascending_at, ascending_insert, map_insert, length_insert, take_put}
@@ -44,10 +43,10 @@ held_in_order (g ∷ gs) e i j d l h =
     let to = get_or-map data_of (g ∷ gs) j g d k in
     omega (arith, ap (λ (x : GroupData). x.order) at, ap (λ (x : GroupData). x.order) to)
 
--- a group of these has an order
-pub order_among : (o : ℕ) (gs : List Group) → list_any (λ (g : Group). g.order == o) gs ≡ has_order o (map data_of gs)
-order_among o [] = refl
-order_among o (g ∷ gs) = ap (λ (b : Bool). (g.order == o) || b) (order_among o gs)
+-- one of these groups passes a test by its values
+pub any_data : (p : GroupData → Bool) (gs : List Group) → list_any (λ (g : Group). p (data_of g)) gs ≡ list_any p (map data_of gs)
+any_data p [] = refl
+any_data p (g ∷ gs) = ap (λ (b : Bool). p (data_of g) || b) (any_data p gs)
 
 -- a turn of the drawing of all groups
 pub all_more : (gs : List Group) (i : ℕ) (g : Group) (us us' whole : List ℕ) → i < length gs → g ≡ get_or gs i g → us' ≡ drawn g.members.flags g.units us

@@ -25,10 +25,6 @@ module _ (ms : List Bool) (us : List ℕ) (i : ℕ) (in-ms : i < length ms) (in-
       → left q s p (drop i ms) (drop i us) ≡ get_or us i 0 ∷ left q s p (drop (i + 1) ms) (drop (i + 1) us)
   left_out q s p e = rw (drop_more ms i false in-ms, drop_more us i 0 in-us, e, sub-zero)
 
--- past the last seat nothing is left
-pub used_end : (ms : List Bool) (us : List ℕ) (i : ℕ) → length ms ≤ i → used (drop i ms) (drop i us) ≡ 0
-used_end ms us i over = rw (drop_all i ms over)
-
 pub left_end : (q s p : ℕ) (ms : List Bool) (us : List ℕ) (i : ℕ) → length us ≤ i → left q s p (drop i ms) (drop i us) ≡ []
 left_end q s p ms us i over = rw (drop_all i us over)
 

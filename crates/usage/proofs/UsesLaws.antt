@@ -1,12 +1,7 @@
 -- Lists of uses: the bound as a test, and seats set to 0. Assumes nothing.
-use Rattle.std.proofs.Common.{◌≡◌, ℕ, zero, suc, ◌<◌, ◌≤◌, Bool, true, false, cond, leb, List, [], ◌∷◌, length, get_or, refl, ap, ◌∙◌, arith}
-use Rattle.std.proofs.lemmas.Bool.{leb-true, le-leb, and_parts, and_from}
+use Rattle.std.proofs.Common.{◌≡◌, ℕ, zero, suc, ◌<◌, ◌≤◌, Bool, true, false, cond, List, [], ◌∷◌, length, get_or, refl, ap, ◌∙◌, arith}
+use Rattle.std.proofs.lemmas.Bool.{le-leb, and_from}
 use Rattle.usage.specs.UsesLists.{UsesList, small, cleared}
-
-pub small_all : (us : List ℕ) → small us ≡ true → (k : ℕ) → get_or us k 0 ≤ 100000000
-small_all [] e k = omega arith
-small_all (u ∷ us) e zero = leb-true u 100000000 (and_parts (leb u 100000000) (small us) e).0
-small_all (u ∷ us) e (suc k) = small_all us (and_parts (leb u 100000000) (small us) e).1 k
 
 pub all_small : (us : List ℕ) → ((k : ℕ) → get_or us k 0 ≤ 100000000) → small us ≡ true
 all_small [] f = refl

@@ -89,9 +89,10 @@ impl Groups {
         draw_each(self.entries(), uses)
     }
 
-    // The groups, by ascending order.
-    fn entries(&self) -> &[Group]
-        ensures { result.now ≡ take self.now.count self.now.entries }
+    /// The groups, by ascending order.
+    pub fn entries(&self) -> &[Group]
+        ensures is { result.now ≡ take self.now.count self.now.entries }
+        ensures data { map data_of result.now ≡ held self.now }
     {
         let count = self.count;
         &self.entries[0..count]
