@@ -1,8 +1,8 @@
 -- What each call with no cause leaves in memory is the book's step. Assumes nothing.
-use Rattle.std.proofs.Common.{◌≡◌, ℕ, ◌<◌, ◌≤◌, true, false, List, map, set, Some, None, Ok, Err, vec_items, vec_len, Option, Result, MatchResult, sym, refl, ap, ◌∙◌, subst}
+use Rattle.std.proofs.Common.{◌≡◌, ℕ, ◌<◌, ◌≤◌, true, false, List, map, set, Some, None, Ok, Err, vec_items, vec_len, Option, Result, MatchResult, sym, refl, ap, ◌∙◌, subst, rules}
 use Rattle.std.specs.List.{slice_get}
 use Rattle.std.proofs.lemmas.List.{map-set}
-use denote.Enum.Bare.{sameb}
+use denote.Enum.Bare.{sameb, same_true, same_false}
 use Rattle.refusal.specs.Rows.{bare}
 use Rattle.heads.specs.declared.head.Head.{Head}
 use Rattle.heads.specs.Rules.{HeadData, SoundHead, ending}
@@ -30,27 +30,12 @@ use Rattle.catalogue.proofs.Holding.{slot_at, stands, tariff_at, clash_at, held_
 abbrev pub slot : State → Head → Slot
 slot st h = record { state = st; head = h }
 
--- the test of a state for the published one
-pub public : (st : State) → true ≡ sameb the_type st Published → st ≡ Published
-public Empty e = cc
-public InWork e = cc
-public Published e = refl
+-- what the test of a state says
+pub is_state : (a b : State) → true ≡ sameb the_type a b → a ≡ b
+is_state a b e = same_true the_type (search rules) a b (sym e)
 
--- the test of a state for the empty one
-pub empty : (st : State) → true ≡ sameb the_type st Empty → st ≡ Empty
-empty Empty e = refl
-empty InWork e = cc
-empty Published e = cc
-
-pub not_empty : (st : State) → false ≡ sameb the_type st Empty → st ≡ Empty → ⊥
-not_empty Empty e i = cc
-not_empty InWork e i = cc
-not_empty Published e i = cc
-
-pub not_public : (st : State) → false ≡ sameb the_type st Published → st ≡ Published → ⊥
-not_public Empty e i = cc
-not_public InWork e i = cc
-not_public Published e i = cc
+pub is_not_state : (a b : State) → false ≡ sameb the_type a b → a ≡ b → ⊥
+is_not_state a b e = same_false the_type a b (sym e)
 
 module _ {T : Type 0} (m : Catalogue T) (p : ℕ) where
   -- the book after a slot is written, and after a slot and its tariff are

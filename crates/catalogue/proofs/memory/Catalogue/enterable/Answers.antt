@@ -9,7 +9,7 @@ use Rattle.catalogue.specs.Held.{held}
 use Rattle.catalogue.proofs.Places.{told_by}
 use Rattle.catalogue.proofs.Judging.{judge_missing, enter_unsound, enter_taken}
 use Rattle.catalogue.proofs.Holding.{some_at, stands, tariff_at}
-use Rattle.catalogue.proofs.Doing.{public, not_public, enter_open}
+use Rattle.catalogue.proofs.Doing.{is_state, is_not_state, enter_open}
 use Rattle.catalogue.proofs.memory.Catalogue.enterable.Goals as goal
 
 pub returns-in_err-slot : goal.returns-in_err-slot
@@ -34,7 +34,7 @@ returns-then-eq g c = λ t.
     let at = c.in_ok-slot.ensures in
     let u = tariff_at m c.args.place at.inside in
     enter_taken (held m) c.args.place (raw_data c.args.head.now) t (head_data s.head) u.0
-    (stands m c.args.place s Published u.0 at (public s.state c.if-eq.ensures) u.1)
+    (stands m c.args.place s Published u.0 at (is_state s.state Published c.if-eq.ensures) u.1)
     (MatchOption-at_some _ _ _ c.in_ok-head.ensures.ok_part c.new.ensures).0
 
 pub returns : goal.returns
@@ -42,4 +42,4 @@ returns g c =
     let s = c.in_ok-slot.slot in
     let at = c.in_ok-slot.ensures in
     let d = MatchOption-at_some _ _ _ c.in_ok-head.ensures.ok_part c.new.ensures in
-    (at.inside, d.1, λ t. enter_open c.args.self.now c.args.place s (raw_data c.args.head.now) t at (not_public s.state c.if-eq.ensures) d.0)
+    (at.inside, d.1, λ t. enter_open c.args.self.now c.args.place s (raw_data c.args.head.now) t at (is_not_state s.state Published c.if-eq.ensures) d.0)

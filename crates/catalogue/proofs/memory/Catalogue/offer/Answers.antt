@@ -5,7 +5,7 @@ use Rattle.std.proofs.lemmas.Grind.{common_steps}
 use Rattle.std.proofs.lemmas.Option.{gets}
 use Rattle.catalogue.specs.declared.slot.State.TheVariants.{Published}
 use Rattle.catalogue.proofs.Holding.{none_at, found_at, stands, tariff_read, unpublished}
-use Rattle.catalogue.proofs.Doing.{public, not_public}
+use Rattle.catalogue.proofs.Doing.{is_state, is_not_state}
 use Rattle.catalogue.proofs.memory.Catalogue.offer.Goals as goal
 
 pub returns-in_err-slot : goal.returns-in_err-slot
@@ -27,5 +27,5 @@ returns g c =
     let at = found_at m c.args.place s found in
     rw c.then_some.ensures
     (offered c.eq.result _ _ _
-    (λ e. stands m c.args.place s Published t at (public s.state (sym e ∙ c.eq.ensures)) (tariff_read m c.args.place t at.inside c.index.ensures))
-    (λ e. unpublished m c.args.place s at (not_public s.state (sym e ∙ c.eq.ensures))))
+    (λ e. stands m c.args.place s Published t at (is_state s.state Published (sym e ∙ c.eq.ensures)) (tariff_read m c.args.place t at.inside c.index.ensures))
+    (λ e. unpublished m c.args.place s at (is_not_state s.state Published (sym e ∙ c.eq.ensures))))
