@@ -1,5 +1,5 @@
 -- What every call keeps: the number of places, namesakes apart, heads that keep the rules. Assumes nothing.
-use Rattle.std.proofs.Common.{◌≡◌, ℕ, zero, suc, ◌<◌, ◌≤◌, length, set, Some, None, Option, sym, refl, ap, ◌∙◌, subst, ⊎_elim, arith}
+use Rattle.std.proofs.Common.{◌≡◌, ℕ, zero, suc, ◌<◌, ◌≤◌, length, set, Some, None, Option, sym, refl, ap, ◌∙◌, subst, ⊎_elim}
 use Rattle.std.proofs.lemmas.List.{length-set}
 use Rattle.std.proofs.lemmas.Bool.{cases_eq, cases_lt}
 use Rattle.refusal.specs.Rows.{RowData, bare}
@@ -48,13 +48,13 @@ apart_set b p x apart free m =
     (cases_eq m.two p))
     (cases_eq m.one p)
 
-free_work : {T : Type 0} (b : Book T) (p : ℕ) (k : HeadData) (u : T) → Free b p (in_work k u)
-free_work b p k u h t e = absurd (let z : ◌≡◌ {A = ℕ} 0 1 = cc in omega arith)
+pub free_work : {T : Type 0} (b : Book T) (p : ℕ) (k : HeadData) (u : T) → Free b p (in_work k u)
+free_work b p k u h t e = cc
 
-free_empty : {T : Type 0} (b : Book T) (p : ℕ) → Free b p empty
-free_empty b p h t e = absurd (let z : ◌≡◌ {A = ℕ} 0 1 = cc in omega arith)
+pub free_empty : {T : Type 0} (b : Book T) (p : ℕ) → Free b p empty
+free_empty b p h t e = cc
 
-free_published : {T : Type 0} (b : Book T) (p : ℕ) (h : HeadData) (t : T) → ((k : ℕ) → Rival b p h k → ⊥) → Free b p (published h t)
+pub free_published : {T : Type 0} (b : Book T) (p : ℕ) (h : HeadData) (t : T) → ((k : ℕ) → Rival b p h k → ⊥) → Free b p (published h t)
 free_published b p h t none k u e q r = let s : h ≡ k = cc in none q (subst (λ (x : HeadData). Rival b p x q) (sym s) r)
 
 -- the step of a call with no cause writes what is free
@@ -133,7 +133,7 @@ empty_at (suc n) zero x e = same_some (Some empty) empty x refl e
 empty_at (suc n) (suc p) x e = empty_at n p x e
 
 pub opened_apart : {T : Type 0} (n : ℕ) → Apart (all_empty {T = T} n)
-opened_apart n m = let e = empty_at n m.one (published m.head m.tariff) m.at_one in absurd (let z : ◌≡◌ {A = ℕ} 0 1 = cc in omega arith)
+opened_apart n m = let e = empty_at n m.one (published m.head m.tariff) m.at_one in cc
 
 pub opened_sound : {T : Type 0} (n : ℕ) → SoundBook (all_empty {T = T} n)
 opened_sound {T} n p x e = subst (λ (z : Place T). SoundPlace z) (empty_at n p x e) tt

@@ -10,13 +10,13 @@ use Rattle.catalogue.proofs.Places.{none_some, same_some}
 
 -- two things do not stand at one place
 empty_work : {T : Type 0} (o : Option (Place T)) (h : HeadData) (t : T) → o ≡ Some empty → o ≡ Some (in_work h t) → ⊥
-empty_work o h t p q = let z : ◌≡◌ {A = ℕ} 0 1 = cc in omega arith
+empty_work o h t p q = cc
 
 empty_published : {T : Type 0} (o : Option (Place T)) (h : HeadData) (t : T) → o ≡ Some empty → o ≡ Some (published h t) → ⊥
-empty_published o h t p q = let z : ◌≡◌ {A = ℕ} 0 1 = cc in omega arith
+empty_published o h t p q = cc
 
 pub work_published : {T : Type 0} (o : Option (Place T)) (h k : HeadData) (t u : T) → o ≡ Some (in_work h t) → o ≡ Some (published k u) → ⊥
-work_published o h k t u p q = let z : ◌≡◌ {A = ℕ} 0 1 = cc in omega arith
+work_published o h k t u p q = cc
 
 pub same_work : {T : Type 0} (o : Option (Place T)) (h k : HeadData) (t u : T) → o ≡ Some (in_work h t) → o ≡ Some (in_work k u) → h ≡ k
 same_work o h k t u p q = cc

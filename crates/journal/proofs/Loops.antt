@@ -5,8 +5,7 @@ use Rattle.std.proofs.lemmas.List.{append-nil, append_assoc, nil_from_length, ma
 use Rattle.tariff.specs.Totals.{Meaning}
 use Rattle.catalogue.specs.Books.{Book, all_empty}
 use Rattle.journal.specs.declared.call.Call.{Call}
-use Rattle.journal.specs.declared.call.Answer.{Answer}
-use Rattle.journal.specs.Calls.{call_data, answer_data}
+use Rattle.journal.specs.Calls.{Answer, call_data, answer_data}
 use Rattle.journal.specs.Runs.{Answered, Run, opened, then}
 
 -- the calls made so far are a run that leads to the book held, those made and those to come are all, and there is room for the rest

@@ -9,8 +9,7 @@ use Rattle.journal.specs.declared.run.Given.{Given}
 use Rattle.journal.specs.declared.run.Replayed.{Replayed}
 use Rattle.journal.specs.declared.run.Stopped.{Stopped}
 use Rattle.journal.specs.declared.run.Stopped.TheVariants.{NoRoom, NotOpened}
-use Rattle.journal.specs.declared.call.Answer.{Answer}
-use Rattle.journal.specs.Calls.{call_data, answer_data}
+use Rattle.journal.specs.Calls.{Answer, call_data, answer_data}
 use Rattle.journal.specs.Runs.{Run}
 
 -- there is room for an answer to each call, behind what the memory for the answers holds

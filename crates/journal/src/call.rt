@@ -19,13 +19,23 @@ pub enum Call<T> {
     List(Enquiry, Vec<Line>),
 }
 
-/// The answer to a call.
+/// What a call that is not declined gives back.
 #[derive(Drop)]
-pub enum Answer<T> {
+pub enum Granted {
     /// The call took its step.
     Done,
     /// So many lines are shown and so many offers were costed; the line memory comes back.
     Shown(usize, usize, Vec<Line>),
-    /// The call is declined, and comes back with all that it handed over.
-    Refused(Refusal, Call<T>),
 }
+
+/// A declined call, with all that it handed over.
+#[derive(Drop)]
+pub struct Declined<T> {
+    /// Why.
+    pub refusal: Refusal,
+    /// The call, as it was.
+    pub call: Call<T>,
+}
+
+/// The answer to a call.
+pub type Answer<T> = Result<Granted, Declined<T>>;

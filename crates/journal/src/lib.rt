@@ -8,7 +8,7 @@ pub mod refusing;
 pub mod replaying;
 pub mod run;
 
-pub use call::{Answer, Call};
+pub use call::{Answer, Call, Declined, Granted};
 pub use making::answer;
 pub use refusing::Refusal;
 pub use replaying::replay;

@@ -7,8 +7,7 @@ ghost use Rattle.journal.specs.Calls.{call_data, answer_data, said_to};
 ghost use Rattle.journal.specs.Runs.{Answered, Extends};
 ghost use Rattle.journal.specs.Stores.{Stored};
 
-use crate::call::{Answer, Call};
-use crate::refusing::Refusal;
+use crate::call::{Answer, Call, Declined, Granted};
 use catalogue::{Catalogue, Refusal as CatalogueRefusal};
 use listing::list;
 use tariff::Tariff;
@@ -22,23 +21,24 @@ pub fn answer<T: Tariff + Drop>(catalogue: &mut Catalogue<T>, call: Call<T>) -> 
     ensures extends { Extends (meaning T.served T.drawn T.charged T.floor) (held catalogue.old) (call_data call) (answer_data result) (held catalogue.new) }
 {
     match call {
-        Call::Enter(place, head, tariff) => match catalogue.enter(place, &head, tariff) {
-            Ok(()) => Answer::Done,
-            Err((refusal, back)) => Answer::Refused(
-                Refusal::Catalogue(refusal),
-                Call::Enter(place, head, back),
-            ),
-        },
+        Call::Enter(place, head, tariff) => catalogue
+            .enter(place, &head, tariff)
+            .map(|()| Granted::Done)
+            .map_err(|(refusal, back)| Declined {
+                refusal: refusal.into(),
+                call: Call::Enter(place, head, back),
+            }),
         Call::Publish(place) => changed(catalogue.publish(place), Call::Publish(place)),
         Call::Amend(place, last) => changed(catalogue.amend(place, last), Call::Amend(place, last)),
         Call::Delete(place) => changed(catalogue.delete(place), Call::Delete(place)),
-        Call::List(enquiry, memory) => {
-            let mut lines = memory;
-            match list(catalogue, &enquiry, &mut lines) {
-                Ok((shown, costed)) => Answer::Shown(shown, costed, lines),
-                Err(refusal) => Answer::Refused(Refusal::List(refusal), Call::List(enquiry, lines)),
-            }
-        }
+        // The lines come back in both cases, so `map_err` cannot take them.
+        Call::List(enquiry, mut lines) => match list(catalogue, &enquiry, &mut lines) {
+            Ok((shown, costed)) => Ok(Granted::Shown(shown, costed, lines)),
+            Err(refusal) => Err(Declined {
+                refusal: refusal.into(),
+                call: Call::List(enquiry, lines),
+            }),
+        },
     }
 }
 
@@ -46,8 +46,8 @@ pub fn answer<T: Tariff + Drop>(catalogue: &mut Catalogue<T>, call: Call<T>) -> 
 fn changed<T: Drop>(said: Result<(), CatalogueRefusal>, call: Call<T>) -> Answer<T>
     ensures { answer_data result ≡ said_to (told said) (call_data call) }
 {
-    match said {
-        Ok(()) => Answer::Done,
-        Err(refusal) => Answer::Refused(Refusal::Catalogue(refusal), call),
-    }
+    said.map(|()| Granted::Done).map_err(|refusal| Declined {
+        refusal: refusal.into(),
+        call,
+    })
 }

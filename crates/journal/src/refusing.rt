@@ -1,4 +1,7 @@
 //! Why a call is declined.
+ghost use Rattle.std.specs.Prelude.{◌≡◌};
+ghost use Rattle.journal.specs.declared.refusing.Refusal.TheVariants.{Catalogue, List};
+
 use catalogue::Refusal as CatalogueRefusal;
 use listing::Refusal as ListRefusal;
 
@@ -9,4 +12,20 @@ pub enum Refusal {
     Catalogue(CatalogueRefusal),
     /// A list.
     List(ListRefusal),
+}
+
+impl From<CatalogueRefusal> for Refusal {
+    ghost from_gives = { λ e r. r ≡ Catalogue e };
+
+    fn from(refusal: CatalogueRefusal) -> Refusal {
+        Refusal::Catalogue(refusal)
+    }
+}
+
+impl From<ListRefusal> for Refusal {
+    ghost from_gives = { λ e r. r ≡ List e };
+
+    fn from(refusal: ListRefusal) -> Refusal {
+        Refusal::List(refusal)
+    }
 }

@@ -27,6 +27,7 @@ pub fn replay<T: Tariff + Drop>(given: Given<T>) -> Result<Replayed<T>, Stopped<
         calls,
         mut answers,
     } = given;
+    // The calls and the answers are used in both cases, so `map_err` cannot take them.
     let mut catalogue = match Catalogue::open(slots, tariffs) {
         Ok(catalogue) => catalogue,
         Err(back) => {
