@@ -1,4 +1,5 @@
+pub mod BigEndian
+pub mod Printed
 pub mod Repeats
-pub mod Ends
 pub mod Whenever
 pub mod Written

@@ -1,5 +1,5 @@
 -- One turn of a loop over a repeated reading: what is left to read gives what the whole gives. Assumes nothing.
-use Rattle.std.proofs.Common.{◌≡◌, ℕ, suc, ◌+◌, ◌-◌, ◌<◌, List, sym, refl, ◌∙◌, arith}
+use Rattle.std.proofs.Common.{◌≡◌, ℕ, suc, ◌+◌, ◌-◌, ◌<◌, ◌≤◌, List, sym, refl, ◌∙◌, arith}
 use Rattle.cursor.specs.Readings.{Got, Reading, repeated, onward, value, fault}
 
 pub repeated_more : {E S : Type 0} (n i : ℕ) (step : S → Reading E S) (s : S) (xs : List ℕ) (at : ℕ) → i < n → repeated (n - i) step s xs at ≡ onward (step s xs at) (λ t k. repeated (n - (i + 1)) step t xs k)
@@ -18,3 +18,9 @@ repeated_fault n i step s xs at f whole h e inv =
     let m = repeated_more n i step s xs at h in
     let k : onward (step s xs at) (λ t k. repeated (n - (i + 1)) step t xs k) ≡ fault f = rw e refl in
     sym inv ∙ (m ∙ k)
+
+-- where no turn is left
+pub repeated_end : {E S : Type 0} (n i : ℕ) (step : S → Reading E S) (s : S) (xs : List ℕ) (at : ℕ) (whole : Got E S) → n ≤ i → repeated (n - i) step s xs at ≡ whole → whole ≡ value s at
+repeated_end n i step s xs at whole h inv =
+    let e : n - i ≡ 0 = omega arith in
+    sym (rw e at inv)

@@ -1,5 +1,5 @@
 -- Readings of a list of bytes from a place on. Assumes nothing.
-use Rattle.std.specs.Prelude.{◌≡◌, ℕ, zero, suc, ◌+◌, ◌*◌, cond, ◌&&◌, List, length, Ok, Err, Result, nat_le, nat_lt, slice_index}
+use Rattle.std.specs.Prelude.{◌≡◌, ℕ, zero, suc, ◌+◌, ◌*◌, Bool, not, cond, ◌&&◌, List, length, Ok, Err, Result, nat_le, nat_lt, slice_index}
 use Rattle.cursor.specs.declared.fault.Fault.{Fault}
 use Rattle.cursor.specs.declared.fault.Fault.TheVariants.{EndsEarly, AgainstRule, BytesLeft}
 use Rattle.cursor.specs.declared.part.Part.{Part}
@@ -60,6 +60,10 @@ run n xs at = cond (nat_le (at + n) (length xs)) (value (record { start = at; le
 -- one byte from 32 to 126
 abbrev pub printable : Unit {0} → Reading Fault (Unit {0})
 printable u = then (ranged 1 32 126) (λ _. done tt)
+
+-- whether a byte is none of those
+abbrev pub unprinted : ℕ → Bool
+unprinted b = not (nat_le 32 b && nat_le b 126)
 
 -- a count from 1 to most, and so many bytes from 32 to 126
 abbrev pub text : ℕ → Reading Fault Part

@@ -8,7 +8,9 @@ pub mod moving;
 pub mod numbers;
 pub mod part;
 pub mod texts;
+pub mod unsigned;
 
 pub use cursor::Cursor;
 pub use fault::Fault;
 pub use part::Part;
+pub use unsigned::Number;

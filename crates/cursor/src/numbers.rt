@@ -2,7 +2,7 @@
 ghost use Rattle.cursor.specs.Faults.{row_of};
 
 use crate::fault::Fault;
-use refusal::{Row, Value};
+use refusal::{Layer, Row, Value};
 
 impl Row for Fault {
     ghost row = { row_of };
@@ -16,16 +16,9 @@ impl Row for Fault {
     }
 
     fn value(&self, at: usize) -> Option<Value> {
-        match *self {
-            Fault::EndsEarly(byte) | Fault::AgainstRule(byte) | Fault::BytesLeft(byte) => {
-                if at == 0 {
-                    Some(Value::Byte(byte as u64))
-                } else if at == 1 {
-                    Some(Value::Layer(1))
-                } else {
-                    None
-                }
-            }
-        }
+        let (Fault::EndsEarly(byte) | Fault::AgainstRule(byte) | Fault::BytesLeft(byte)) = *self;
+        [Value::Byte(byte as u64), Value::Layer(Layer::Layout)]
+            .get(at)
+            .copied()
     }
 }

@@ -16,11 +16,11 @@ impl Part {
     pub fn of<'a>(self, sheet: &'a [u8]) -> Option<&'a [u8]>
         ensures { MatchOption result (length sheet.now < self.start + self.len) (λ part. CutOut self sheet.entry part) }
     {
-        let start = self.start;
-        if start > sheet.len() || sheet.len() - start < self.len {
-            return None;
-        }
-        let end = start + self.len;
-        Some(&sheet[start..end])
+        let end = self
+            .start
+            .checked_add(self.len)
+            .filter(|end| *end <= sheet.len())?;
+        // `sheet.get(..)` does not promise that the part lies in the sheet's own memory
+        Some(&sheet[self.start..end])
     }
 }

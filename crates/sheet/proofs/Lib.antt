@@ -1,3 +1,4 @@
+pub mod Ranges
 pub mod Entered
 pub mod Chained
 pub mod Recorded

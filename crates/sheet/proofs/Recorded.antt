@@ -6,7 +6,7 @@ use Rattle.std.proofs.lemmas.Bool.{cases_lt}
 use Rattle.std.proofs.lemmas.Bool.Decides.{nat_tests}
 use Rattle.heads.specs.Rules.{head_of, SoundHead}
 use Rattle.cursor.specs.Parts.{cut}
-use Rattle.cursor.specs.Readings.{Answers, repeated, field, ranged, run, text, ended}
+use Rattle.cursor.specs.Readings.{Answers, Reading, repeated, field, ranged, run, text, ended}
 use Rattle.cursor.specs.Encodings.{Bytes, two, four, Text, counted}
 use Rattle.cursor.proofs.Whenever.{Whenever, whenever_weaker, whenever_then, whenever_as, whenever_at, whenever_both}
 use Rattle.cursor.proofs.Written.{Stands, stands_behind, TextRead, one_written, two_written, two_bound, four_written, ranged_whenever, run_written, text_written, ended_written}
@@ -16,8 +16,8 @@ use Rattle.draft.specs.Drafts.{DraftData}
 use Rattle.draft.specs.Saving.{save_plan}
 use Rattle.sheet.specs.declared.fault.Fault.{Fault}
 use Rattle.sheet.specs.declared.fault.Fault.TheVariants.{Layout}
-use Rattle.sheet.specs.Layout.{HeadValues, Contents, lowest_network, longest_term, front, answered, priced, price_entry, prices, grouped, group_entry, groups, plan, whole}
-use Rattle.sheet.specs.Records.{PriceFields, GroupFields, Fields, FewNodes, head_bytes, price_bytes, group_bytes, section, encoding, go_on, enter_prices, enter_groups, Written}
+use Rattle.sheet.specs.Layout.{HeadValues, Contents, lowest_network, longest_term, front, answered, priced, price_entry, grouped, group_entry, entries, plan, whole}
+use Rattle.sheet.specs.Records.{PriceFields, GroupFields, Fields, FewNodes, head_bytes, price_bytes, group_bytes, section, encoding, go_on, enter_all, enter_prices, enter_groups, Written}
 
 -- the values of a head as its reading tests them
 record InRange (h : HeadValues) : Type 0 where
@@ -87,26 +87,29 @@ module _ (xs : List ℕ) (fit : Bytes xs) where
   answered_whenever byte (Ok d) at P h = h d refl
   answered_whenever byte (Err e) at P h = tt
 
-  price_written : (d : DraftData) (at : ℕ) → Whenever (price_entry d xs at) (λ e n. (f : PriceFields) × Stands (price_bytes f) xs at n × (priced d f.node f.price ≡ Ok e))
+  -- entries whose bytes are those of fields of which P holds, and which the draft takes
+  module _ {V : Type 0} (bytes : V → List ℕ) (enter : V → DraftData → Result DraftData Refusal) (P : V → Type 0) (entry : DraftData → Reading Fault DraftData)
+      (each : (d : DraftData) (at : ℕ) → Whenever (entry d xs at) (λ e n. (f : V) × Stands (bytes f) xs at n × (enter f d ≡ Ok e) × P f)) where
+    entries_written : (n : ℕ) (d : DraftData) (at : ℕ) → Whenever (repeated n entry d xs at) (λ e m. (fs : List V) × (length fs ≡ n) × Stands (flat_map bytes fs) xs at m × (enter_all enter fs d ≡ Ok e) × AllByRecursion P fs)
+    entries_written zero d at = ([], refl, record { is = refl }, refl, tt)
+    entries_written (suc n) d at =
+        whenever_then (entry d xs at) (λ e k. repeated n entry e xs k) (λ e m. (f : V) × Stands (bytes f) xs at m × (enter f d ≡ Ok e) × P f) _ (each d at) (λ e m p.
+        whenever_weaker (repeated n entry e xs m) _ _ (entries_written n e m) (λ g k q.
+        (p.0 ∷ q.0, ap suc q.1, stands_behind p.1 q.2, rw p.2 q.3, (p.3, q.4))))
+
+    section_written : (most : ℕ) (d : DraftData) (at : ℕ) → Whenever (entries most entry d xs at) (λ e m. (fs : List V) × Stands (section bytes fs) xs at m × (enter_all enter fs d ≡ Ok e) × (length fs ≤ most) × AllByRecursion P fs)
+    section_written most d at =
+        whenever_then _ _ (λ v n. Stands (v ∷ []) xs at n × (0 ≤ v) × (v ≤ most)) _ (whenever_as Layout (ranged 1 0 most xs at) _ (one_in 0 most at)) (λ n m e1.
+        whenever_weaker (repeated n entry d xs m) _ _ (entries_written n d m) (λ e k q.
+        let s : Stands ((n ∷ []) ++ flat_map bytes q.0) xs at k = stands_behind e1.0 q.2 in
+        let l : length q.0 ≤ most = omega arith in
+        (q.0, rw q.1 s, q.3, l, q.4)))
+
+  price_written : (d : DraftData) (at : ℕ) → Whenever (price_entry d xs at) (λ e n. (f : PriceFields) × Stands (price_bytes f) xs at n × (priced d f.node f.price ≡ Ok e) × Unit {0})
   price_written d at =
       whenever_then _ _ (λ v n. Stands (v ∷ []) xs at n) _ (whenever_as Layout (field 1 xs at) _ (one_written xs at)) (λ node a e1.
       whenever_then _ _ (λ v n. Stands (four v) xs a n) _ (whenever_as Layout (field 4 xs a) _ (four_written xs a fit)) (λ price b e2.
-      answered_whenever at (priced d node price) b _ (λ e h. (record { node = node; price = price }, stands_behind e1 e2, h))))
-
-  prices_written : (n : ℕ) (d : DraftData) (at : ℕ) → Whenever (repeated n price_entry d xs at) (λ e m. (fs : List PriceFields) × (length fs ≡ n) × Stands (flat_map price_bytes fs) xs at m × (enter_prices fs d ≡ Ok e))
-  prices_written zero d at = ([], refl, record { is = refl }, refl)
-  prices_written (suc n) d at =
-      whenever_then (price_entry d xs at) (λ e k. repeated n price_entry e xs k) (λ e m. (f : PriceFields) × Stands (price_bytes f) xs at m × (priced d f.node f.price ≡ Ok e)) _ (price_written d at) (λ e m p.
-      whenever_weaker (repeated n price_entry e xs m) _ _ (prices_written n e m) (λ g k q.
-      (p.0 ∷ q.0, ap suc q.1, stands_behind p.1 q.2, rw p.2 q.3)))
-
-  price_section : (d : DraftData) (at : ℕ) → Whenever (prices d xs at) (λ e m. (fs : List PriceFields) × Stands (section price_bytes fs) xs at m × (enter_prices fs d ≡ Ok e) × (length fs ≤ 40))
-  price_section d at =
-      whenever_then _ _ (λ v n. Stands (v ∷ []) xs at n × (0 ≤ v) × (v ≤ 40)) _ (whenever_as Layout (ranged 1 0 40 xs at) _ (one_in 0 40 at)) (λ n m e1.
-      whenever_weaker (repeated n price_entry d xs m) _ _ (prices_written n d m) (λ e k q.
-      let s : Stands ((n ∷ []) ++ flat_map price_bytes q.0) xs at k = stands_behind e1.0 q.2 in
-      let l : length q.0 ≤ 40 = omega arith in
-      (q.0, rw q.1 s, q.3, l)))
+      answered_whenever at (priced d node price) b _ (λ e h. (record { node = node; price = price }, stands_behind e1 e2, h, tt))))
 
   group_written : (d : DraftData) (at : ℕ) → Whenever (group_entry d xs at) (λ e n. (f : GroupFields) × Stands (group_bytes f) xs at n × (grouped d f.order f.units f.nodes ≡ Ok e) × FewNodes f)
   group_written d at =
@@ -120,21 +123,6 @@ module _ (xs : List ℕ) (fit : Bytes xs) where
       let few : FewNodes (record { order = order; units = units; nodes = cut nodes xs }) = rw e4.0 (e3.1, e3.2) in
       (record { order = order; units = units; nodes = cut nodes xs }, stands_behind e1 (stands_behind e2 t), h, few))))))
 
-  groups_written : (n : ℕ) (d : DraftData) (at : ℕ) → Whenever (repeated n group_entry d xs at) (λ e m. (fs : List GroupFields) × (length fs ≡ n) × Stands (flat_map group_bytes fs) xs at m × (enter_groups fs d ≡ Ok e) × AllByRecursion FewNodes fs)
-  groups_written zero d at = ([], refl, record { is = refl }, refl, tt)
-  groups_written (suc n) d at =
-      whenever_then (group_entry d xs at) (λ e k. repeated n group_entry e xs k) (λ e m. (f : GroupFields) × Stands (group_bytes f) xs at m × (grouped d f.order f.units f.nodes ≡ Ok e) × FewNodes f) _ (group_written d at) (λ e m p.
-      whenever_weaker (repeated n group_entry e xs m) _ _ (groups_written n e m) (λ g k q.
-      (p.0 ∷ q.0, ap suc q.1, stands_behind p.1 q.2, rw p.2 q.3, (p.3, q.4))))
-
-  group_section : (d : DraftData) (at : ℕ) → Whenever (groups d xs at) (λ e m. (fs : List GroupFields) × Stands (section group_bytes fs) xs at m × (enter_groups fs d ≡ Ok e) × (length fs ≤ 8) × AllByRecursion FewNodes fs)
-  group_section d at =
-      whenever_then _ _ (λ v n. Stands (v ∷ []) xs at n × (0 ≤ v) × (v ≤ 8)) _ (whenever_as Layout (ranged 1 0 8 xs at) _ (one_in 0 8 at)) (λ n m e1.
-      whenever_weaker (repeated n group_entry d xs m) _ _ (groups_written n d m) (λ e k q.
-      let s : Stands ((n ∷ []) ++ flat_map group_bytes q.0) xs at k = stands_behind e1.0 q.2 in
-      let l : length q.0 ≤ 8 = omega arith in
-      (q.0, rw q.1 s, q.3, l, q.4)))
-
   -- both sections and the end of the sheet, and the plan that they make
   abbrev Made : ℕ → DraftData → ℕ → TableData → ℕ → Type 0
   Made sum d at t n =
@@ -143,8 +131,8 @@ module _ (xs : List ℕ) (fit : Bytes xs) where
 
   plan_written : (sum : ℕ) (d : DraftData) (at : ℕ) → Whenever (plan sum d xs at) (Made sum d at)
   plan_written sum d at =
-      whenever_then _ _ (λ e m. (fs : List PriceFields) × Stands (section price_bytes fs) xs at m × (enter_prices fs d ≡ Ok e) × (length fs ≤ 40)) _ (price_section d at) (λ e a p.
-      whenever_then _ _ (λ g m. (fs : List GroupFields) × Stands (section group_bytes fs) xs a m × (enter_groups fs e ≡ Ok g) × (length fs ≤ 8) × AllByRecursion FewNodes fs) _ (group_section e a) (λ g b q.
+      whenever_then _ _ (λ e m. (fs : List PriceFields) × Stands (section price_bytes fs) xs at m × (enter_prices fs d ≡ Ok e) × (length fs ≤ 40) × AllByRecursion (λ _. Unit {0}) fs) _ (section_written price_bytes (λ e d. priced d e.node e.price) (λ _. Unit {0}) price_entry price_written 40 d at) (λ e a p.
+      whenever_then _ _ (λ g m. (fs : List GroupFields) × Stands (section group_bytes fs) xs a m × (enter_groups fs e ≡ Ok g) × (length fs ≤ 8) × AllByRecursion FewNodes fs) _ (section_written group_bytes (λ e d. grouped d e.order e.units e.nodes) FewNodes group_entry group_written 8 e a) (λ g b q.
       whenever_then _ _ (λ _ n. (n ≡ b) × (length xs ≤ b)) _ (whenever_as Layout (ended xs b) _ (ended_written xs b)) (λ _ c r.
       answered_whenever (length xs) (save_plan g sum) c _ (λ t h.
       let s : Stands (section group_bytes q.0) xs a c = rw r.0 q.1 in

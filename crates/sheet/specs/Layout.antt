@@ -61,9 +61,13 @@ price_entry d xs at =
     then (laid (field 4)) (λ price.
     answered at (priced d node price))) xs at
 
+-- a count from 0 to most, and so many entries
+abbrev pub entries : ℕ → (DraftData → Reading Fault DraftData) → DraftData → Reading Fault DraftData
+entries most entry d = then (laid (ranged 1 0 most)) (λ n. repeated n entry d)
+
 -- a count from 0 to 40, and so many prices
 abbrev pub prices : DraftData → Reading Fault DraftData
-prices d = then (laid (ranged 1 0 40)) (λ n. repeated n price_entry d)
+prices = entries 40 price_entry
 
 -- what the draft answers to a group at nodes
 unfoldable pub grouped : DraftData → ℕ → ℕ → List ℕ → Result DraftData Refusal
@@ -80,7 +84,7 @@ group_entry d xs at =
 
 -- a count from 0 to 8, and so many groups
 abbrev pub groups : DraftData → Reading Fault DraftData
-groups d = then (laid (ranged 1 0 8)) (λ n. repeated n group_entry d)
+groups = entries 8 group_entry
 
 -- the draft saved as a plan: a refusal names the sheet's length
 abbrev pub saved : ℕ → DraftData → Reading Fault TableData

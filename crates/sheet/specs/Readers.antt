@@ -2,8 +2,8 @@
 use Rattle.std.specs.Prelude.{◌≡◌, ℕ, List, Ok, Err, Result}
 use Rattle.std.specs.Borrow.{Bor}
 use Rattle.cursor.specs.declared.part.Part.{Part}
-use Rattle.cursor.specs.Readings.{Reading, text}
-use Rattle.cursor.specs.Cursors.{Took, TookPart}
+use Rattle.cursor.specs.Readings.{Reading, fault, text}
+use Rattle.cursor.specs.Cursors.{from, Took, TookPart}
 use Rattle.draft.specs.Drafts.{DraftData, draft_data}
 use Rattle.sheet.specs.declared.fault.Fault.{Fault}
 use Rattle.sheet.specs.declared.reader.Reader.{Reader}
@@ -25,3 +25,12 @@ ReadPlace most s r t = Took (laid (text most)) s.cursor r t.cursor × (t.draft �
 abbrev pub ReadEntries : (DraftData → Reading Fault DraftData) → Reader → Result (Unit {0}) Fault → Reader → Type 0
 ReadEntries p s (Ok u) t = Took (p (draft_data s.draft)) s.cursor (Ok (draft_data t.draft)) t.cursor
 ReadEntries p s (Err e) t = Took (p (draft_data s.draft)) s.cursor (Err e) t.cursor × (t.draft ≡ s.draft)
+
+-- one entry, which the draft takes
+abbrev pub Entered : (DraftData → Reading Fault DraftData) → Reader → Result Reader Fault → Type 0
+Entered p s (Ok t) = Took (p (draft_data s.draft)) s.cursor (Ok (draft_data t.draft)) t.cursor
+Entered p s (Err e) = from s.cursor (p (draft_data s.draft)) ≡ fault e
+
+-- whatever a step gives from a reader is such an entry
+abbrev pub EachEntered : (DraftData → Reading Fault DraftData) → (Reader → Result Reader Fault → Type 0) → Type 0
+EachEntered p gives = (s : Reader) (r : Result Reader Fault) → gives s r → Entered p s r

@@ -70,13 +70,15 @@ go_on (Ok v) k = k v
 go_on (Err e) k = Err e
 
 -- the entries go to the draft one by one
+abbrev pub enter_all : {V : Type 0} → (V → DraftData → Result DraftData Refusal) → List V → DraftData → Result DraftData Refusal
+enter_all enter [] d = Ok d
+enter_all enter (e ∷ es) d = go_on (enter e d) (enter_all enter es)
+
 abbrev pub enter_prices : List PriceFields → DraftData → Result DraftData Refusal
-enter_prices [] d = Ok d
-enter_prices (e ∷ es) d = go_on (priced d e.node e.price) (enter_prices es)
+enter_prices = enter_all (λ e d. priced d e.node e.price)
 
 abbrev pub enter_groups : List GroupFields → DraftData → Result DraftData Refusal
-enter_groups [] d = Ok d
-enter_groups (e ∷ es) d = go_on (grouped d e.order e.units e.nodes) (enter_groups es)
+enter_groups = enter_all (λ e d. grouped d e.order e.units e.nodes)
 
 -- the plan that the entries make
 abbrev pub plan_of : Fields → DraftData → Result TableData Refusal

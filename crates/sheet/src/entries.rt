@@ -1,43 +1,33 @@
 //! Entries of a sheet, which go to the draft once their last byte is read.
-ghost use Rattle.cursor.specs.Cursors.{Took};
-ghost use Rattle.draft.specs.Drafts.{draft_data};
-ghost use Rattle.draft.specs.Rules.{map_ok};
 ghost use Rattle.sheet.specs.Layout.{price_entry, group_entry};
+ghost use Rattle.sheet.specs.Readers.{Entered};
 
+use crate::convert::with_byte;
 use crate::fault::Fault;
-use cursor::Cursor;
-use draft::Draft;
+use crate::reader::Reader;
 
-// A price: a node and its price.
-pub(crate) fn price_entry(cursor: &mut Cursor, draft: Draft) -> Result<Draft, Fault>
-    ensures { Took (price_entry (draft_data draft)) cursor.old (map_ok draft_data result) cursor.new }
-{
-    let mut scan = *cursor;
-    let node = scan.byte()?;
-    let price = scan.number32()?;
-    match draft.price(node, price) {
-        Ok(next) => {
-            *cursor = scan;
-            Ok(next)
-        }
-        Err(refusal) => Err(Fault::Draft(refusal, cursor.place())),
+impl<'a> Reader<'a> {
+    // A price: a node and its price.
+    pub(crate) fn price_entry(self) -> Result<Reader<'a>, Fault>
+        ensures { Entered price_entry self.entry result }
+    {
+        let mut cursor = self.cursor;
+        let node: u8 = cursor.number()?;
+        let price: u32 = cursor.number()?;
+        let draft = with_byte(self.draft.price(node, price), self.cursor.place())?;
+        Ok(Reader { cursor, draft })
     }
-}
 
-// A group: its order, its units, and its nodes behind their count.
-pub(crate) fn group_entry(cursor: &mut Cursor, draft: Draft) -> Result<Draft, Fault>
-    ensures { Took (group_entry (draft_data draft)) cursor.old (map_ok draft_data result) cursor.new }
-{
-    let mut scan = *cursor;
-    let order = scan.byte()?;
-    let units = scan.number32()?;
-    let count = scan.byte_in(1, 40)?;
-    let nodes = scan.run(count)?;
-    match draft.group(order, units, nodes) {
-        Ok(next) => {
-            *cursor = scan;
-            Ok(next)
-        }
-        Err(why) => Err(Fault::Draft(why, cursor.place())),
+    // A group: its order, its units, and its nodes behind their count.
+    pub(crate) fn group_entry(self) -> Result<Reader<'a>, Fault>
+        ensures { Entered group_entry self.entry result }
+    {
+        let mut cursor = self.cursor;
+        let order: u8 = cursor.number()?;
+        let units: u32 = cursor.number()?;
+        let count = cursor.number_in(1, 40)?;
+        let nodes = cursor.run(count)?;
+        let draft = with_byte(self.draft.group(order, units, nodes), self.cursor.place())?;
+        Ok(Reader { cursor, draft })
     }
 }

@@ -17,11 +17,11 @@ pub(crate) fn front(cursor: &mut Cursor) -> Result<SheetHead, Fault>
     let mut scan = *cursor;
     let contract = contract(&mut scan)?;
     let network = network(&mut scan, contract)?;
-    let supplier = scan.number16()?;
-    let sum = scan.number32_in(0, 1_000_000)?;
+    let supplier = scan.number()?;
+    let sum = scan.number_in(0, 1_000_000)?;
     let term = term(&mut scan, contract)?;
-    let first = scan.number16_in(0, 65_534)?;
-    let last = scan.number16_in(first, 65_535)?;
+    let first = scan.number_in(0, 65_534)?;
+    let last = scan.number_in(first, 65_535)?;
     *cursor = scan;
     Ok(SheetHead {
         contract,
@@ -37,25 +37,24 @@ pub(crate) fn front(cursor: &mut Cursor) -> Result<SheetHead, Fault>
 fn contract(cursor: &mut Cursor) -> Result<Contract, Fault>
     ensures { Took (ranged 1 1 2) cursor.old (map_ok contract_code result) cursor.new }
 {
-    if cursor.byte_in(1, 2)? == 2 {
-        Ok(Contract::Card)
-    } else {
-        Ok(Contract::Subscription)
-    }
+    let mut scan = *cursor;
+    let start = scan.place();
+    let contract = Contract::try_from(scan.number::<u8>()?).map_err(|_| Fault::AgainstRule(start))?;
+    *cursor = scan;
+    Ok(contract)
 }
 
 fn network(cursor: &mut Cursor, contract: Contract) -> Result<Network, Fault>
     ensures { Took (ranged 1 (lowest_network (contract_code contract)) 2) cursor.old (map_ok network_code result) cursor.new }
 {
-    let low = match contract {
-        Contract::Subscription => 1,
-        Contract::Card => 2,
-    };
-    if cursor.byte_in(low, 2)? == 2 {
-        Ok(Network::Mobile)
-    } else {
-        Ok(Network::Fixed)
+    let mut scan = *cursor;
+    let start = scan.place();
+    let network = Network::try_from(scan.number::<u8>()?).map_err(|_| Fault::AgainstRule(start))?;
+    if contract == Contract::Card && network == Network::Fixed {
+        return Err(Fault::AgainstRule(start));
     }
+    *cursor = scan;
+    Ok(network)
 }
 
 fn term(cursor: &mut Cursor, contract: Contract) -> Result<u8, Fault>
@@ -65,5 +64,5 @@ fn term(cursor: &mut Cursor, contract: Contract) -> Result<u8, Fault>
         Contract::Subscription => 60,
         Contract::Card => 0,
     };
-    cursor.byte_in(0, high)
+    cursor.number_in(0, high)
 }

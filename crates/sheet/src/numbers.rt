@@ -6,7 +6,7 @@ ghost use Rattle.sheet.specs.declared.fault.Fault.TheVariants.{Draft};
 
 use crate::fault::Fault;
 use draft::Refusal;
-use refusal::{Row, Value};
+use refusal::{Layer, Row, Value};
 
 impl Row for Fault {
     ghost row = { row_of };
@@ -30,15 +30,10 @@ impl Row for Fault {
 fn draft_value(refusal: Refusal, byte: usize, at: usize) -> Option<Value>
     ensures { result ≡ value_at (row_of (Draft refusal byte)).values at }
 {
-    let node = refusal.value(0);
-    let before = if node.is_some() { 1 } else { 0 };
-    if at < before {
-        node
-    } else if at == before {
-        Some(Value::Byte(byte as u64))
-    } else if at == before + 1 {
-        Some(Value::Layer(2))
-    } else {
-        None
+    let byte = Value::Byte(byte as u64);
+    let layer = Value::Layer(Layer::Draft);
+    match refusal.value(0) {
+        Some(node) => [node, byte, layer].get(at).copied(),
+        None => [byte, layer].get(at).copied(),
     }
 }

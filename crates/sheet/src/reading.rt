@@ -9,11 +9,11 @@ ghost use Rattle.sheet.specs.Layout.{laid, front, prices, groups, saved};
 ghost use Rattle.sheet.specs.Sheets.{head_values};
 ghost use Rattle.sheet.specs.Readers.{ReadHead, ReadText, ReadEntries};
 
+use crate::convert::with_byte;
 use crate::fault::Fault;
 use crate::front::front;
 use crate::head::SheetHead;
 use crate::reader::Reader;
-use crate::sections::{groups, prices};
 use cursor::Cursor;
 use draft::Draft;
 use kinds::Plan;
@@ -36,52 +36,35 @@ impl<'a> Reader<'a> {
     pub fn head(&mut self) -> Result<SheetHead, Fault>
         ensures { ReadHead self.old (map_ok head_values result) self.new }
     {
-        let mut cursor = self.cursor;
-        let head = front(&mut cursor)?;
-        self.cursor = cursor;
-        Ok(head)
+        Ok(front(&mut self.cursor)?)
     }
 
     /// The name: 1 to 24 bytes of the sheet itself.
     pub fn name(&mut self) -> Result<&'a [u8], Fault>
         ensures { ReadText 24 self.old result self.new }
     {
-        let mut cursor = self.cursor;
-        let name = cursor.text(24)?;
-        self.cursor = cursor;
-        Ok(name)
+        self.text(24)
     }
 
     /// The link: 1 to 64 bytes of the sheet itself.
     pub fn link(&mut self) -> Result<&'a [u8], Fault>
         ensures { ReadText 64 self.old result self.new }
     {
-        let mut cursor = self.cursor;
-        let link = cursor.text(64)?;
-        self.cursor = cursor;
-        Ok(link)
+        self.text(64)
     }
 
     /// The prices: 0 to 40 entries, which go to the draft.
     pub fn prices(&mut self) -> Result<(), Fault>
         ensures { ReadEntries prices self.old result self.new }
     {
-        let mut cursor = self.cursor;
-        let draft = prices(&mut cursor, self.draft)?;
-        self.cursor = cursor;
-        self.draft = draft;
-        Ok(())
+        self.section(40, Reader::price_entry)
     }
 
     /// The groups: 0 to 8 entries, which go to the draft.
     pub fn groups(&mut self) -> Result<(), Fault>
         ensures { ReadEntries groups self.old result self.new }
     {
-        let mut cursor = self.cursor;
-        let draft = groups(&mut cursor, self.draft)?;
-        self.cursor = cursor;
-        self.draft = draft;
-        Ok(())
+        self.section(8, Reader::group_entry)
     }
 
     /// Declines what stands behind the last section.
@@ -96,10 +79,7 @@ impl<'a> Reader<'a> {
     pub fn save(&self, sum: u32) -> Result<Plan, Fault>
         ensures { Answers (map_ok plan_table result) (saved sum (draft_data self.now.draft) self.now.cursor.bytes.now self.now.cursor.at) }
     {
-        match self.draft.save_plan(sum) {
-            Ok(plan) => Ok(plan),
-            Err(refusal) => Err(Fault::Draft(refusal, self.cursor.length())),
-        }
+        with_byte(self.draft.save_plan(sum), self.cursor.length())
     }
 
     /// The draft that the entries read so far have made.
@@ -107,5 +87,12 @@ impl<'a> Reader<'a> {
         ensures { result.now ≡ self.now.draft }
     {
         &self.draft
+    }
+
+    // A text of at most so many bytes, as a part of the sheet itself.
+    pub(crate) fn text(&mut self, most: u8) -> Result<&'a [u8], Fault>
+        ensures { ReadText most self.old result self.new }
+    {
+        Ok(self.cursor.text(most)?)
     }
 }

@@ -1,38 +1,29 @@
 //! Sections of entries, each behind its count.
-ghost use Rattle.cursor.specs.Cursors.{Took};
-ghost use Rattle.draft.specs.Drafts.{draft_data};
-ghost use Rattle.draft.specs.Rules.{map_ok};
-ghost use Rattle.sheet.specs.Layout.{prices, groups};
+ghost use Rattle.cursor.specs.Readings.{Reading};
+ghost use Rattle.draft.specs.Drafts.{DraftData};
+ghost use Rattle.sheet.specs.declared.fault.Fault.{Fault};
+ghost use Rattle.sheet.specs.Layout.{entries};
+ghost use Rattle.sheet.specs.Readers.{EachEntered, ReadEntries};
 
-use crate::entries::{group_entry, price_entry};
 use crate::fault::Fault;
-use cursor::Cursor;
-use draft::Draft;
+use crate::reader::Reader;
 
-// The prices: 0 to 40.
-pub(crate) fn prices(cursor: &mut Cursor, draft: Draft) -> Result<Draft, Fault>
-    ensures { Took (prices (draft_data draft)) cursor.old (map_ok draft_data result) cursor.new }
-{
-    let mut scan = *cursor;
-    let count = scan.byte_in(0, 40)?;
-    let mut gathered = draft;
-    for _i in 0..count {
-        gathered = price_entry(&mut scan, gathered)?;
+impl<'a> Reader<'a> {
+    // A count from 0 to the most, and so many entries.
+    pub(crate) fn section<F: Fn(Reader<'a>) -> Result<Reader<'a>, Fault>>(
+        &mut self,
+        most: u8,
+        entry: F,
+    ) -> Result<(), Fault>
+        requires { F.IsAlwaysCallable entry }
+        ensures { (reads : DraftData → Reading Fault DraftData) → EachEntered reads (F.post entry) → ReadEntries (entries most reads) self.old result self.new }
+    {
+        let mut reader = *self;
+        let count = reader.cursor.number_in(0, most)?;
+        for _i in 0..count {
+            reader = entry(reader)?;
+        }
+        *self = reader;
+        Ok(())
     }
-    *cursor = scan;
-    Ok(gathered)
-}
-
-// The groups: 0 to 8.
-pub(crate) fn groups(cursor: &mut Cursor, draft: Draft) -> Result<Draft, Fault>
-    ensures { Took (groups (draft_data draft)) cursor.old (map_ok draft_data result) cursor.new }
-{
-    let mut scan = *cursor;
-    let count = scan.byte_in(0, 8)?;
-    let mut gathered = draft;
-    for _i in 0..count {
-        gathered = group_entry(&mut scan, gathered)?;
-    }
-    *cursor = scan;
-    Ok(gathered)
 }

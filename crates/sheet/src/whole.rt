@@ -51,8 +51,8 @@ impl<'a> Reader<'a> {
         ensures { Answers (map_ok contents result) (whole (draft_data self.old.draft) self.old.cursor.bytes.now self.old.cursor.at) }
     {
         let head = self.head()?;
-        let name = self.name_place()?;
-        let link = self.link_place()?;
+        let name = self.text_place(24)?;
+        let link = self.text_place(64)?;
         let plan = self.plan(head.sum)?;
         Ok(PlanSheet {
             head,
@@ -72,18 +72,12 @@ impl<'a> Reader<'a> {
         self.save(sum)
     }
 
-    fn name_place(&mut self) -> Result<Part, Fault>
-        ensures { ReadPlace 24 self.old result self.new }
+    // The place of a text of at most so many bytes.
+    fn text_place(&mut self, most: u8) -> Result<Part, Fault>
+        ensures { ReadPlace most self.old result self.new }
     {
-        let name = self.name()?;
-        Ok(self.behind(name.len()))
-    }
-
-    fn link_place(&mut self) -> Result<Part, Fault>
-        ensures { ReadPlace 64 self.old result self.new }
-    {
-        let link = self.link()?;
-        Ok(self.behind(link.len()))
+        let text = self.text(most)?;
+        Ok(self.behind(text.len()))
     }
 
     // The part of so many bytes that ends where the reader stands.

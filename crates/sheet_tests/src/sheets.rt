@@ -1,5 +1,5 @@
 //! The good sheet, and what a faulty one is told.
-use refusal::{Row, Value};
+use refusal::{Layer, Row, Value};
 use sheet::read;
 use std::test::Fail;
 use tree::ServiceTree;
@@ -20,37 +20,27 @@ pub(crate) fn good() -> [u8; 32] {
 // The good sheet with another byte at a place.
 pub(crate) fn with(at: usize, byte: u8) -> [u8; 32] {
     let mut sheet = good();
-    if at < 32 {
-        sheet[at] = byte;
+    if let Some(old) = sheet.get_mut(at) {
+        *old = byte;
     }
     sheet
 }
 
 // The number and the values that a sheet is refused with; 0 where it is read.
-pub(crate) fn refusal_of(
-    sheet: &[u8],
-) -> Result<(u16, Option<Value>, Option<Value>, Option<Value>), tree::Refusal> {
-    match read(sheet, &small_tree()?) {
-        Ok(_) => Ok((0, None, None, None)),
-        Err(fault) => Ok((
+pub(crate) fn refusal_of(sheet: &[u8]) -> Result<(u16, [Option<Value>; 3]), tree::Refusal> {
+    Ok(match read(sheet, &small_tree()?) {
+        Ok(_) => (0, [None; 3]),
+        Err(fault) => (
             fault.number(),
-            fault.value(0),
-            fault.value(1),
-            fault.value(2),
-        )),
-    }
+            [fault.value(0), fault.value(1), fault.value(2)],
+        ),
+    })
 }
 
 // The sheet is refused with this number and these values.
-fn check_refusal(
-    sheet: &[u8],
-    number: u16,
-    first: Value,
-    second: Value,
-    third: Option<Value>,
-) -> Result<(), Fail> {
+fn check_refusal(sheet: &[u8], number: u16, values: [Option<Value>; 3]) -> Result<(), Fail> {
     let told = refusal_of(sheet)?;
-    let wanted = (number, Some(first), Some(second), third);
+    let wanted = (number, values);
     if told == wanted {
         Ok(())
     } else {
@@ -60,22 +50,27 @@ fn check_refusal(
 
 // The sheet is refused by the layout, at a byte.
 pub(crate) fn against_layout(sheet: &[u8], number: u16, byte: u64) -> Result<(), Fail> {
-    check_refusal(sheet, number, Value::Byte(byte), Value::Layer(1), None)
+    let layer = Value::Layer(Layer::Layout);
+    check_refusal(sheet, number, [Some(Value::Byte(byte)), Some(layer), None])
 }
 
 // The sheet is refused by the draft, at a byte, with no node.
 pub(crate) fn against_draft(sheet: &[u8], number: u16, byte: u64) -> Result<(), Fail> {
-    check_refusal(sheet, number, Value::Byte(byte), Value::Layer(2), None)
+    let layer = Value::Layer(Layer::Draft);
+    check_refusal(sheet, number, [Some(Value::Byte(byte)), Some(layer), None])
 }
 
 // The sheet is refused by the draft, at a byte, with a node.
 pub(crate) fn at_node(sheet: &[u8], number: u16, node: u64, byte: u64) -> Result<(), Fail> {
+    let layer = Value::Layer(Layer::Draft);
     check_refusal(
         sheet,
         number,
-        Value::Node(node),
-        Value::Byte(byte),
-        Some(Value::Layer(2)),
+        [
+            Some(Value::Node(node)),
+            Some(Value::Byte(byte)),
+            Some(layer),
+        ],
     )
 }
 

@@ -1,26 +1,25 @@
-use Rattle.std.proofs.Common.{◌≡◌, ◌-◌, refl, ◌∙◌, arith, rules}
-use Rattle.cursor.specs.Readings.{repeated, printable, ranged, value}
-use Rattle.cursor.proofs.Ends.{printables_next}
+use Rattle.std.proofs.Common.{refl, ◌∙◌, arith}
+use Rattle.std.proofs.lemmas.Result.{err_from_is_err_and}
+use Rattle.cursor.proofs.Printed.{text_told}
 use Rattle.cursor.proofs.cursor.Cursor.text.Goals as goal
 
-pub slice_bounds-part-count : goal.slice_bounds-part-count
-slice_bounds-part-count c = let h = printables_next c.in_ok-count.count c.byte_in.new.self.bytes.now c.byte_in.new.self.at tt c.printables.new.self.at c.in_ok-printables.ensures.0 in omega arith
+pub returns-in-Some : goal.returns-in-Some
+returns-in-Some c =
+    let a = c.in_ok-count.ensures in
+    let t = text_told c.args.most c.number_in.new.self.bytes.now c.args.self.now.at c.in_ok-count.count c.number_in.new.self.at _ (rw a.1 a.0) (omega arith) c.in-Some.ensures in
+    (simp a.1 at t, refl)
 
-pub slice_bounds-part-start : goal.slice_bounds-part-start
-slice_bounds-part-start c = let h = printables_next c.in_ok-count.count c.byte_in.new.self.bytes.now c.byte_in.new.self.at tt c.printables.new.self.at c.in_ok-printables.ensures.0 in search rules
+pub returns-in_err-text : goal.returns-in_err-text
+returns-in_err-text c =
+    let p = err_from_is_err_and c.from_residual-in_err-text.result c.from_residual-in_err-text.ensures.1 in
+    let a = c.in_ok-count.ensures in
+    let b = c.in_err-text.ensures in
+    let t = text_told c.args.most c.number_in.new.self.bytes.now c.args.self.now.at c.in_ok-count.count c.number_in.new.self.at _ (rw a.1 a.0) (omega arith) c.in_default.ensures in
+    rw (p.1, p.2) (simp a.1 at (t ∙ b.0), refl)
 
 pub returns : goal.returns
 returns c =
-    let h = printables_next c.in_ok-count.count c.byte_in.new.self.bytes.now c.byte_in.new.self.at tt c.printables.new.self.at c.in_ok-printables.ensures.0 in
     let a = c.in_ok-count.ensures in
-    let b = c.in_ok-printables.ensures in
-    let count : ranged 1 1 c.args.most c.args.self.now.bytes.now c.args.self.now.at ≡ value c.in_ok-count.count c.byte_in.new.self.at = a.0 in
-    let n : c.printables.new.self.at - c.byte_in.new.self.at ≡ c.in_ok-count.count = omega arith in
-    let e : repeated c.in_ok-count.count printable tt c.args.self.now.bytes.now c.byte_in.new.self.at ≡ value tt c.printables.new.self.at = simp a.1 at b.0 in
-    record {
-      part = record { start = c.byte_in.new.self.at; len = c.in_ok-count.count };
-      is = rw (count, e) refl;
-      cut_out = record { bytes = rw n refl; long = search rules; memory = refl; place = search rules };
-      ends = h;
-      same = b.1 ∙ a.1;
-    }
+    let b = c.in_ok-text.ensures in
+    let t = text_told c.args.most c.number_in.new.self.bytes.now c.args.self.now.at c.in_ok-count.count c.number_in.new.self.at _ (rw a.1 a.0) (omega arith) c.in_default.ensures in
+    record { part = b.part; is = simp a.1 at (t ∙ b.is); cut_out = rw (← a.1) b.cut_out; ends = b.ends; same = b.same ∙ a.1 }
