@@ -1,7 +1,10 @@
 -- What every head keeps to, and when two heads share a day. Assumes nothing.
-use Rattle.std.proofs.Common.{◌≡◌, ℕ, ◌<◌, ◌≤◌, ◌⊎◌, List, length, get_or, refl, ap, ◌∙◌, inl, inr, ⊎_elim, arith}
+use Rattle.std.proofs.Common.{◌≡◌, ◌≢◌, ℕ, Result, Ok, Err, MatchOption, ◌<◌, ◌≤◌, ◌⊎◌, List, length, get_or, refl, ap, ◌∙◌, inl, inr, ⊎_elim, arith}
 use Rattle.std.proofs.lemmas.Bool.{cases_lt, cases_eq}
+use Rattle.std.specs.Result.{result_ok}
 use Rattle.heads.specs.Kinds.{network_code, contract_code}
+use Rattle.heads.specs.Codes.{Decodes}
+use Rattle.heads.specs.declared.kinds.UnknownCode.{UnknownCode}
 use Rattle.heads.specs.Rules.{HeadData, head_of, SoundHead, ShareADay}
 use Rattle.heads.specs.Heads.{head_data}
 use Rattle.heads.specs.declared.head.Head.{Head}
@@ -18,6 +21,11 @@ network_known Mobile = inr refl
 pub contract_known : (c : Contract) → (contract_code c ≡ 1) ⊎ (contract_code c ≡ 2)
 contract_known Subscription = inl refl
 contract_known Card = inr refl
+
+-- what `ok` keeps of a kind that a code gave
+pub decoded : {Kind : Type 0} (number : Kind → ℕ) (code : ℕ) (r : Result Kind UnknownCode) → Decodes number code r → MatchOption (result_ok r) ((kind : Kind) → number kind ≢ code) (λ kind. number kind ≡ code)
+decoded number code (Ok kind) d = d
+decoded number code (Err e) d = d.1
 
 -- every head keeps the rules
 pub head_sound : (h : Head) → SoundHead (head_data h)

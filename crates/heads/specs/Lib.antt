@@ -1,4 +1,5 @@
 pub mod Kinds
+pub mod Codes
 pub mod Texts
 pub mod Rules
 pub mod Names

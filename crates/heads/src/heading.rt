@@ -16,8 +16,8 @@ impl Head {
         ensures { MatchOption result (SoundHead (raw_data raw.now) → ⊥) (λ h. SoundHead (raw_data raw.now) × (head_data h ≡ raw_data raw.now)) }
     {
         let name = Name::new(&raw.name)?;
-        let network = Network::new(raw.network)?;
-        let contract = Contract::new(raw.contract)?;
+        let network = Network::try_from(raw.network).ok()?;
+        let contract = Contract::try_from(raw.contract).ok()?;
         Head::of(
             raw.supplier,
             name,

@@ -1,6 +1,7 @@
 //! Networks and kinds of contract, with their codes.
-ghost use Rattle.std.specs.Prelude.{◌≡◌, MatchOption, ◌≢◌};
+ghost use Rattle.std.specs.Prelude.{◌≡◌};
 ghost use Rattle.heads.specs.Kinds.{network_code, contract_code};
+ghost use Rattle.heads.specs.Codes.{Decodes};
 
 /// The network that an offer is for.
 #[derive(Clone, Copy, Debug, PartialEq)]
@@ -20,46 +21,54 @@ pub enum Contract {
     Card,
 }
 
-impl Network {
-    /// The network of this code, if there is one.
-    pub fn new(code: u8) -> Option<Network>
-        ensures { MatchOption result ((n : Network) → network_code n ≢ code) (λ n. network_code n ≡ code) }
-    {
+/// A code that is no network's, or no kind of contract's.
+#[derive(Clone, Copy, Debug, PartialEq, Eq)]
+pub struct UnknownCode(pub u8);
+
+impl TryFrom<u8> for Network {
+    type Error = UnknownCode;
+
+    ghost try_from_gives = { Decodes network_code };
+
+    fn try_from(code: u8) -> Result<Network, UnknownCode> {
         match code {
-            1 => Some(Network::Fixed),
-            2 => Some(Network::Mobile),
-            _ => None,
+            1 => Ok(Network::Fixed),
+            2 => Ok(Network::Mobile),
+            _ => Err(UnknownCode(code)),
         }
     }
+}
 
-    /// The network's code.
-    pub fn code(self) -> u8
-        ensures { result ≡ network_code self }
-    {
-        match self {
+impl From<Network> for u8 {
+    ghost from_gives = { λ network code. code ≡ network_code network };
+
+    fn from(network: Network) -> u8 {
+        match network {
             Network::Fixed => 1,
             Network::Mobile => 2,
         }
     }
 }
 
-impl Contract {
-    /// The kind of contract of this code, if there is one.
-    pub fn new(code: u8) -> Option<Contract>
-        ensures { MatchOption result ((n : Contract) → contract_code n ≢ code) (λ n. contract_code n ≡ code) }
-    {
+impl TryFrom<u8> for Contract {
+    type Error = UnknownCode;
+
+    ghost try_from_gives = { Decodes contract_code };
+
+    fn try_from(code: u8) -> Result<Contract, UnknownCode> {
         match code {
-            1 => Some(Contract::Subscription),
-            2 => Some(Contract::Card),
-            _ => None,
+            1 => Ok(Contract::Subscription),
+            2 => Ok(Contract::Card),
+            _ => Err(UnknownCode(code)),
         }
     }
+}
 
-    /// The contract's code.
-    pub fn code(self) -> u8
-        ensures { result ≡ contract_code self }
-    {
-        match self {
+impl From<Contract> for u8 {
+    ghost from_gives = { λ contract code. code ≡ contract_code contract };
+
+    fn from(contract: Contract) -> u8 {
+        match contract {
             Contract::Subscription => 1,
             Contract::Card => 2,
         }

@@ -10,6 +10,6 @@ pub mod raw;
 pub mod values;
 
 pub use head::Head;
-pub use kinds::{Contract, Network};
+pub use kinds::{Contract, Network, UnknownCode};
 pub use name::Name;
 pub use raw::RawHead;
