@@ -5,4 +5,5 @@ pub mod Shown
 pub mod Table
 pub mod Answers
 pub mod Tests
+pub mod Requests
 pub mod Theorems

@@ -7,6 +7,7 @@ pub mod listing;
 pub mod numbers;
 pub mod queueing;
 pub mod refusing;
+pub mod request;
 
 pub use enquiry::Enquiry;
 pub use listing::list;
