@@ -1,6 +1,7 @@
 //! The list: the cheapest fitting offers of a catalogue, for one enquiry.
 #![tactic(auto)]
 
+pub mod asked;
 pub mod enquiry;
 pub mod fitting;
 pub mod listing;

@@ -30,9 +30,7 @@ pub fn list<T: Tariff>(
     ensures costed { LinesCosted (meaning T.served T.drawn T.charged T.floor) (held catalogue.now) (enquiry_data enquiry.now) }
 {
     let begun = Gathering::begin(enquiry.length).map_err(|_| Refusal::ListLength)?;
-    if !enquiry.is_sound() {
-        return Err(Refusal::BadEnquiry);
-    }
+    let asked = enquiry.asked()?;
     if memory.len() < catalogue.places() {
         return Err(Refusal::ShortMemory);
     }
@@ -40,6 +38,7 @@ pub fn list<T: Tariff>(
     let request = Request {
         catalogue,
         enquiry,
+        asked,
         uses,
     };
     // A plain table: a list takes no memory beyond the lines that are lent.

@@ -11,7 +11,7 @@ use Rattle.ranking.specs.Costing.{Taken}
 use Rattle.ranking.specs.Steps.{gathered, cut_lines}
 use Rattle.ranking.proofs.Meets.{steps_show}
 use Rattle.stages.specs.Stages.{CutMade}
-use Rattle.listing.specs.declared.refusing.Refusal.TheVariants.{ListLength, BadUses}
+use Rattle.listing.specs.declared.refusing.Refusal.TheVariants.{ListLength, BadEnquiry, BadUses}
 use Rattle.listing.specs.Enquiries.{EnquiryData, enquiry_data}
 use Rattle.listing.specs.Theorems.{LinesCosted}
 use Rattle.listing.specs.Tests.{sound_values, offers}
@@ -43,13 +43,15 @@ returns-in_err-begun g c =
       costed = all-costed g q b;
     }
 
-pub returns-then-not-is_sound : goal.returns-then-not-is_sound
+pub returns-in_err-asked : goal.returns-in_err-asked
 unfolding mean
-returns-then-not-is_sound g c =
+returns-in_err-asked g c =
     let b = held c.args.catalogue.now in
     let q = enquiry_data c.args.enquiry.now in
-    record {
-      answered = (values_row (length b) (length c.args.memory.now) q (search rules) (search rules) (λ s. both_ways (sound_values q) (sym c.if-not-is_sound.ensures) (sound_is q s)), refl);
+    let is : c.from_residual-in_err-asked.result ≡ Err BadEnquiry = search rules in
+    let out = c.in_err-asked.ensures.1 in
+    rw is record {
+      answered = (values_row (length b) (length c.args.memory.now) q (search rules) (search rules) (λ s. both_ways (sound_values q) out (sound_is q s)), refl);
       fixed = list_fixed (mean g) q b;
       bounded = tt;
       costed = all-costed g q b;
@@ -61,7 +63,7 @@ returns-then-memory-places g c =
     let b = held c.args.catalogue.now in
     let q = enquiry_data c.args.enquiry.now in
     record {
-      answered = (memory_row (length b) (length c.args.memory.now) q (search rules) (search rules) (values_sound q (sym c.if-not-is_sound.ensures)) (omega (arith, c.places.ensures.is)), refl);
+      answered = (memory_row (length b) (length c.args.memory.now) q (search rules) (search rules) (values_sound q c.in_ok-asked.ensures.0) (omega (arith, c.places.ensures.is)), refl);
       fixed = list_fixed (mean g) q b;
       bounded = tt;
       costed = all-costed g q b;
@@ -74,7 +76,7 @@ returns-in_err-uses g c =
     let q = enquiry_data c.args.enquiry.now in
     let is : c.from_residual-in_err-uses.result ≡ Err BadUses = search rules in
     rw is record {
-      answered = (uses_row (length b) (length c.args.memory.now) q (search rules) (search rules) (values_sound q (sym c.if-not-is_sound.ensures)) (omega (arith, c.places.ensures.is)) (search rules), refl);
+      answered = (uses_row (length b) (length c.args.memory.now) q (search rules) (search rules) (values_sound q c.in_ok-asked.ensures.0) (omega (arith, c.places.ensures.is)) (search rules), refl);
       fixed = list_fixed (mean g) q b;
       bounded = tt;
       costed = all-costed g q b;
@@ -110,7 +112,7 @@ returns g c =
     let same : c.shown.result ≡ length (cut_lines len ls) = c.shown.ensures ∙ written.1 in
     record {
       answered = (
-        no_row (length b) (length xs) q (search rules) (search rules) (values_sound q (sym c.if-not-is_sound.ensures)) (omega (arith, c.places.ensures.is)) uses,
+        no_row (length b) (length xs) q (search rules) (search rules) (values_sound q c.in_ok-asked.ensures.0) (omega (arith, c.places.ensures.is)) uses,
         record { lines = cut_lines len ls; shows = shows; counts = same; written = written.0 },
       );
       fixed = list_fixed m q b;
