@@ -46,6 +46,6 @@ pub fn list<T: Tariff>(
     let waiting = request.line_up(&mut queue);
     let stage = request.gather(&queue[..waiting], begun, memory);
     let costed = stage.held();
-    let cut = stage.cut(memory).map_err(|_| Refusal::ShortMemory)?;
+    let cut = stage.cut(memory).unwrap();
     Ok((cut.shown(), costed))
 }
