@@ -48,13 +48,13 @@ apart_set b p x apart free m =
     (cases_eq m.two p))
     (cases_eq m.one p)
 
-free_work : {T : Type 0} (b : Book T) (p : ℕ) (k : HeadData) (u : T) → Free b p (in_work k u)
+pub free_work : {T : Type 0} (b : Book T) (p : ℕ) (k : HeadData) (u : T) → Free b p (in_work k u)
 free_work b p k u h t e = absurd (let z : ◌≡◌ {A = ℕ} 0 1 = cc in omega arith)
 
-free_empty : {T : Type 0} (b : Book T) (p : ℕ) → Free b p empty
+pub free_empty : {T : Type 0} (b : Book T) (p : ℕ) → Free b p empty
 free_empty b p h t e = absurd (let z : ◌≡◌ {A = ℕ} 0 1 = cc in omega arith)
 
-free_published : {T : Type 0} (b : Book T) (p : ℕ) (h : HeadData) (t : T) → ((k : ℕ) → Rival b p h k → ⊥) → Free b p (published h t)
+pub free_published : {T : Type 0} (b : Book T) (p : ℕ) (h : HeadData) (t : T) → ((k : ℕ) → Rival b p h k → ⊥) → Free b p (published h t)
 free_published b p h t none k u e q r = let s : h ≡ k = cc in none q (subst (λ (x : HeadData). Rival b p x q) (sym s) r)
 
 -- the step of a call with no cause writes what is free

@@ -1,7 +1,8 @@
 -- What the slots and tariffs in memory say of the book. Assumes nothing.
-use Rattle.std.proofs.Common.{◌≡◌, ℕ, zero, suc, ◌<◌, ◌≤◌, List, [], ◌∷◌, ◌++◌, map, length, get_or, take, drop, set, Some, None, vec_items, vec_len, Option, sym, refl, ap, ◌∙◌, subst, arith}
+use Rattle.std.proofs.Common.{◌≡◌, ℕ, zero, suc, ◌<◌, ◌≤◌, List, [], ◌∷◌, ◌++◌, map, length, get_or, take, drop, set, Some, None, Ok, Err, Result, MatchResult, vec_items, vec_len, Option, sym, refl, ap, ◌∙◌, subst, arith}
 use Rattle.std.specs.List.{slice_get}
-use Rattle.std.proofs.lemmas.Option.{slice_get_read}
+use Rattle.std.specs.Option.{ok_or, option_map}
+use Rattle.std.proofs.lemmas.Option.{slice_get_read, slice_get_within, slice_get-map}
 use Rattle.std.proofs.lemmas.List.{length-map, map-set, take_all, drop_all, append-nil}
 use Rattle.heads.specs.Rules.{HeadData, SoundHead}
 use Rattle.heads.specs.Heads.{head_data}
@@ -10,10 +11,13 @@ use Rattle.catalogue.specs.declared.slot.Slot.{Slot}
 use Rattle.catalogue.specs.declared.slot.State.{State}
 use Rattle.catalogue.specs.declared.slot.State.TheVariants.{Empty, InWork, Published}
 use Rattle.catalogue.specs.declared.memory.Catalogue.{Catalogue}
-use Rattle.catalogue.specs.Books.{Place, empty, place_at, all_empty, SoundPlace, SoundBook}
+use Rattle.catalogue.specs.declared.refusing.Refusal.{Refusal}
+use Rattle.catalogue.specs.declared.refusing.Refusal.TheVariants.{NoSuchPlace}
+use Rattle.catalogue.specs.Books.{Place, empty, published, place_at, all_empty, SoundPlace, SoundBook}
 use Rattle.catalogue.specs.Slots.{SlotData, slot_data, place_by, book_of, emptied}
 use Rattle.catalogue.specs.Search.{bars_slot, first_other}
 use Rattle.catalogue.specs.Held.{memory, held}
+use Rattle.catalogue.specs.Written.{SlotAt}
 use Rattle.catalogue.proofs.Places.{none_some, same_some, nth_map, nth_within}
 use Rattle.catalogue.proofs.Searching.{clash, search_same}
 
@@ -22,6 +26,12 @@ book_past [] ts p h = refl
 book_past (s ∷ ss) [] p h = refl
 book_past (s ∷ ss) (t ∷ ts) zero h = absurd (omega arith)
 book_past (s ∷ ss) (t ∷ ts) (suc p) h = book_past ss ts p (omega arith)
+
+book_none : {T : Type 0} (ss : List SlotData) (ts : List T) (p : ℕ) → slice_get ss p ≡ None → place_at (book_of ss ts) p ≡ None
+book_none [] ts p h = refl
+book_none (s ∷ ss) [] p h = refl
+book_none (s ∷ ss) (t ∷ ts) zero h = absurd (none_some (Some s) s h refl)
+book_none (s ∷ ss) (t ∷ ts) (suc p) h = book_none ss ts p h
 
 book_at : {T : Type 0} (ss : List SlotData) (ts : List T) (p : ℕ) (s : SlotData) (t : T) → slice_get ss p ≡ Some s → slice_get ts p ≡ Some t → place_at (book_of ss ts) p ≡ Some (place_by s.state s.head t)
 book_at [] ts p s t e f = absurd (none_some None s refl e)
@@ -88,9 +98,23 @@ module _ {T : Type 0} (m : Catalogue T) where
       let o = m.slots.ok.0 in let n = length-map (vec_items m.slots) slot_data in
       book_past (memory m) (vec_items m.tariffs) p (omega arith)
 
-  -- the slot read at a place, and the tariff that stands beside it
-  pub slot_at : (p : ℕ) (s : Slot) → p < vec_len m.slots → s ≡ get_or (vec_items m.slots) p s → slice_get (memory m) p ≡ Some (slot_data s)
-  slot_at p s h r = nth_map slot_data (vec_items m.slots) p s (slice_get_read (vec_items m.slots) (vec_len m.slots) p s m.slots.ok.0 h r)
+  -- the slot at a place, and the tariff that stands beside it
+  pub slot_at : (p : ℕ) (s : Slot) → SlotAt m p s → slice_get (memory m) p ≡ Some (slot_data s)
+  slot_at p s r = nth_map slot_data (vec_items m.slots) p s r.found
+
+  pub found_at : (p : ℕ) (s : Slot) → slice_get (vec_items m.slots) p ≡ Some s → SlotAt m p s
+  found_at p s at = let o = m.slots.ok.0 in record { inside = omega (arith, slice_get_within (vec_items m.slots) p s at); found = at }
+
+  pub read_slot : (p : ℕ) (r : Result Slot Refusal) → r ≡ ok_or (slice_get (vec_items m.slots) p) NoSuchPlace → MatchResult r (λ s. SlotAt m p s) (λ e. (e ≡ NoSuchPlace) × (place_at (held m) p ≡ None))
+  read_slot p r e = go (slice_get (vec_items m.slots) p) refl r e
+    where
+      go : (o : Option Slot) → slice_get (vec_items m.slots) p ≡ o → (r : Result Slot Refusal) → r ≡ ok_or o NoSuchPlace → MatchResult r (λ s. SlotAt m p s) (λ e. (e ≡ NoSuchPlace) × (place_at (held m) p ≡ None))
+      go (Some x) at (Ok s) e =
+          let same : x ≡ s = cc in
+          found_at p s (at ∙ ap (λ (y : Slot). Some y) same)
+      go (Some x) at (Err d) e = cc
+      go None at (Ok s) e = cc
+      go None at (Err d) e = (cc, book_none (memory m) (vec_items m.tariffs) p (slice_get-map slot_data (vec_items m.slots) p ∙ ap (λ (o : Option Slot). option_map slot_data o) at))
 
   pub tariff_at : (p : ℕ) → p < vec_len m.slots → (t : T) × (slice_get (vec_items m.tariffs) p ≡ Some t)
   tariff_at p h =
@@ -98,11 +122,23 @@ module _ {T : Type 0} (m : Catalogue T) where
       nth_within (vec_items m.tariffs) p (omega arith)
 
   -- what stands at a place, once the state of its slot is known
-  pub stands : (p : ℕ) (s : Slot) (st : State) (t : T) → p < vec_len m.slots → s ≡ get_or (vec_items m.slots) p s → s.state ≡ st → slice_get (vec_items m.tariffs) p ≡ Some t
+  pub stands : (p : ℕ) (s : Slot) (st : State) (t : T) → SlotAt m p s → s.state ≡ st → slice_get (vec_items m.tariffs) p ≡ Some t
       → place_at (held m) p ≡ Some (place_by st (head_data s.head) t)
-  stands p s st t h r i f =
-      book_at (memory m) (vec_items m.tariffs) p (slot_data s) t (slot_at p s h r) f
+  stands p s st t r i f =
+      book_at (memory m) (vec_items m.tariffs) p (slot_data s) t (slot_at p s r) f
       ∙ ap (λ (z : State). Some (place_by z (head_data s.head) t)) i
+
+  -- a slot that is not published stands for nothing published
+  pub unpublished : (p : ℕ) (s : Slot) → SlotAt m p s → (s.state ≡ Published → ⊥) → (h : HeadData) (t : T) → place_at (held m) p ≡ Some (published h t) → ⊥
+  unpublished p s r ne h t e = go s.state refl
+    where
+      u : (t : T) × (slice_get (vec_items m.tariffs) p ≡ Some t)
+      u = tariff_at p r.inside
+
+      go : (st : State) → s.state ≡ st → ⊥
+      go Empty i = let q = sym (stands p s Empty u.0 r i u.1) ∙ e in cc
+      go InWork i = let q = sym (stands p s InWork u.0 r i u.1) ∙ e in cc
+      go Published i = ne i
 
   -- the search over the slots is that in the book
   pub clash_at : (ss : List Slot) (p : ℕ) (h : HeadData) {o : Option ℕ} → ss ≡ vec_items m.slots → o ≡ first_other (bars_slot h) (map slot_data ss) 0 p → clash (held m) p h ≡ o

@@ -1,10 +1,9 @@
 -- The search finds the lowest rival, and finds none only where there is none. Assumes nothing.
-use Rattle.std.proofs.Common.{◌≡◌, ℕ, zero, suc, ◌+◌, ◌<◌, Bool, true, false, cond, not, ◌&&◌, eqb, leb, ◌⊎◌, List, [], ◌∷◌, map, length, get_or, drop, Some, None, Decides, Option, sym, refl, ap, ◌∙◌, subst, inl, inr, ⊎_elim, add-one, arith}
-use Rattle.std.specs.List.{slice_get}
+use Rattle.std.proofs.Common.{◌≡◌, ℕ, zero, suc, ◌+◌, ◌<◌, Bool, true, false, cond, not, ◌&&◌, eqb, leb, ◌⊎◌, ◌==◌, List, [], ◌∷◌, map, length, Some, None, Decides, Option, sym, refl, ap, ◌∙◌, subst, inl, inr, ⊎_elim, add-one, arith}
+use Rattle.std.specs.List.{slice_get, position_from, enumerate_from}
 use Rattle.std.specs.Str.{bytes_eq}
 use Rattle.std.proofs.lemmas.Slice.Eq.{bytes_eq-Decides}
-use Rattle.std.proofs.lemmas.Bool.{eq-eqb, ne_eqb, le-leb, leb-true, eqb-true, and_from, and_parts, and_right, both_ways, not-true}
-use Rattle.std.proofs.lemmas.List.{at_drop_more}
+use Rattle.std.proofs.lemmas.Bool.{eq-eqb, ne_eqb, le-leb, leb-true, eqb-true, and_from, and_parts, both_ways, not-true}
 use Rattle.heads.specs.Rules.{HeadData, Namesakes, ShareADay}
 use Rattle.heads.proofs.HeadLaws.{crossing, shared_one, shared_other}
 use Rattle.catalogue.specs.declared.slot.State.{State}
@@ -152,28 +151,12 @@ search_same (s ∷ ss) (t ∷ ts) i p h e =
     ap (λ (v : Bool). cond (not (eqb i p) && v) (Some i) (first_other (bars_slot h) ss (suc i) p)) (bars_same h s.state s.head t)
     ∙ ap (λ (o : Option ℕ). cond (not (eqb i p) && bars_place h (place_by s.state s.head t)) (Some i) o) (search_same ss ts (suc i) p h (omega arith))
 
--- a turn of the search over slots
-abbrev pub slots_from : HeadData → ℕ → ℕ → List Slot → Option ℕ
-slots_from h i p xs = first_other (bars_slot h) (map slot_data xs) i p
+-- the search over slots with their places
+abbrev pub bars_other : HeadData → ℕ → ℕ × Slot → Bool
+bars_other h p x = not (x.0 == p) && bars_slot h (slot_data x.1)
 
-pub slots_skip : (h : HeadData) (xs : List Slot) (i p : ℕ) (d : Slot) → i < length xs → (not (eqb i p) && bars_slot h (slot_data (get_or xs i d))) ≡ false
-    → slots_from h i p (drop i xs) ≡ slots_from h (i + 1) p (drop (i + 1) xs)
-slots_skip h xs i p d lt e =
-    at_drop_more (slots_from h i p) xs i d lt
-    ∙ ap (λ (v : Bool). cond v (Some i) (slots_from h (suc i) p (drop (i + 1) xs))) e
-    ∙ ap (λ (j : ℕ). slots_from h j p (drop (i + 1) xs)) (sym (add-one i))
-
-pub slots_hit : (h : HeadData) (xs : List Slot) (i p : ℕ) (d : Slot) → i < length xs → (not (eqb i p) && bars_slot h (slot_data (get_or xs i d))) ≡ true
-    → slots_from h i p (drop i xs) ≡ Some i
-slots_hit h xs i p d lt e =
-    at_drop_more (slots_from h i p) xs i d lt
-    ∙ ap (λ (v : Bool). cond v (Some i) (slots_from h (suc i) p (drop (i + 1) xs))) e
-
-pub bar_true : (i p : ℕ) (v : Bool) → (i ≡ p → ⊥) → v ≡ true → (not (eqb i p) && v) ≡ true
-bar_true i p v ne e = ap (λ (x : Bool). not x && v) (ne_eqb i p ne) ∙ e
-
-pub bar_same : (i p : ℕ) (v : Bool) → i ≡ p → (not (eqb i p) && v) ≡ false
-bar_same i p v same = ap (λ (x : Bool). not x && v) (eq-eqb i p same)
-
-pub bar_free : (i p : ℕ) (v : Bool) → v ≡ false → (not (eqb i p) && v) ≡ false
-bar_free i p v e = and_right (not (eqb i p)) v e
+pub found_other : (h : HeadData) (p : ℕ) (xs : List Slot) (i : ℕ) → position_from (bars_other h p) i (enumerate_from i xs) ≡ first_other (bars_slot h) (map slot_data xs) i p
+found_other h p [] i = refl
+found_other h p (x ∷ xs) i =
+    ap (λ (o : Option ℕ). cond (bars_other h p (i, x)) (Some i) o)
+    (found_other h p xs (i + 1) ∙ ap (λ (j : ℕ). first_other (bars_slot h) (map slot_data xs) j p) (add-one i))

@@ -6,4 +6,5 @@ pub mod Laws
 pub mod Slots
 pub mod Search
 pub mod Held
+pub mod Written
 pub mod Answers

@@ -7,7 +7,6 @@ ghost use Rattle.catalogue.specs.Held.{held, WritesSlot};
 
 use crate::memory::Catalogue;
 use crate::refusing::Refusal;
-use crate::rivals::clashing;
 use crate::slot::{Slot, State};
 
 impl<T: Drop> Catalogue<T> {
@@ -17,35 +16,11 @@ impl<T: Drop> Catalogue<T> {
         ensures stored { MatchResult result (λ _. WritesSlot self.old self.new place (redated last)) (λ _. self.new ≡ self.old) }
         ensures fits { last ≤ 65535 }
     {
-        if place >= self.slots.len() {
-            return Err(Refusal::NoSuchPlace);
+        let slot = self.slot(place)?;
+        if slot.state == State::Empty {
+            return Err(Refusal::EmptyPlace);
         }
-        let slot = self.slots[place];
-        match slot.state {
-            State::Empty => Err(Refusal::EmptyPlace),
-            State::InWork => match slot.head.with_last(last) {
-                None => Err(Refusal::LastBeforeFirst),
-                Some(head) => {
-                    self.slots[place] = Slot {
-                        state: State::InWork,
-                        head,
-                    };
-                    Ok(())
-                }
-            },
-            State::Published => match slot.head.with_last(last) {
-                None => Err(Refusal::LastBeforeFirst),
-                Some(head) => match clashing(&self.slots, place, &head) {
-                    Some(other) => Err(Refusal::SharesDay(other)),
-                    None => {
-                        self.slots[place] = Slot {
-                            state: State::Published,
-                            head,
-                        };
-                        Ok(())
-                    }
-                },
-            },
-        }
+        let head = slot.head.with_last(last).ok_or(Refusal::LastBeforeFirst)?;
+        self.put(place, Slot { head, ..slot })
     }
 }

@@ -16,20 +16,17 @@ impl<T: Drop> Catalogue<T> {
         ensures judged { Judged (held self.old) (delete place) (told result) (held self.new) }
         ensures stored { MatchResult result (λ _. WritesSlot self.old self.new place (restated Empty)) (λ _. self.new ≡ self.old) }
     {
-        if place >= self.slots.len() {
-            return Err(Refusal::NoSuchPlace);
-        }
-        let slot = self.slots[place];
+        let slot = self.slot(place)?;
         match slot.state {
             State::Empty => Err(Refusal::EmptyPlace),
             State::Published => Err(Refusal::StillPublished),
-            State::InWork => {
-                self.slots[place] = Slot {
+            State::InWork => self.put(
+                place,
+                Slot {
                     state: State::Empty,
-                    head: slot.head,
-                };
-                Ok(())
-            }
+                    ..slot
+                },
+            ),
         }
     }
 }

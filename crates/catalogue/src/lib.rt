@@ -12,6 +12,7 @@ pub mod publishing;
 pub mod refusing;
 pub mod rivals;
 pub mod slot;
+pub mod slots;
 
 pub use memory::Catalogue;
 pub use opening::Unopened;

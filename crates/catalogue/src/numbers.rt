@@ -22,13 +22,7 @@ impl Row for Refusal {
 
     fn value(&self, at: usize) -> Option<Value> {
         match *self {
-            Refusal::SharesDay(place) => {
-                if at == 0 {
-                    Some(Value::Place(place as u64))
-                } else {
-                    None
-                }
-            }
+            Refusal::SharesDay(place) => (at == 0).then_some(Value::Place(place as u64)),
             _ => None,
         }
     }

@@ -14,14 +14,7 @@ impl<T> Catalogue<T> {
     pub fn offer(&self, place: usize) -> Option<(Head, &T)>
         ensures { MatchOption result ((h : HeadData) (t : T) → place_at (held self.now) place ≢ Some (published h t)) (λ x. place_at (held self.now) place ≡ Some (published (head_data x.0) x.1.now)) }
     {
-        if place >= self.slots.len() {
-            return None;
-        }
-        let slot = self.slots[place];
-        match slot.state {
-            State::Published => Some((slot.head, &self.tariffs[place])),
-            State::Empty => None,
-            State::InWork => None,
-        }
+        let slot = self.slots.get(place)?;
+        (slot.state == State::Published).then_some((slot.head, &self.tariffs[place]))
     }
 }

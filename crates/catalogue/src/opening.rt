@@ -27,7 +27,7 @@ impl<T: Drop> Catalogue<T> {
         ensures { MatchResult result (λ m. Openable (vec_len slots) (vec_len tariffs) × (held m ≡ all_empty (vec_len slots)) × (memory m ≡ map emptied (map slot_data slots.items)) × (m.tariffs ≡ tariffs)) (λ u. (Openable (vec_len slots) (vec_len tariffs) → ⊥) × (u.refusal ≡ NotOpened) × (u.slots ≡ slots) × (u.tariffs ≡ tariffs)) }
     {
         let n = slots.len();
-        if n == 0 || n > MOST_PLACES || n != tariffs.len() {
+        if !(1..=MOST_PLACES).contains(&n) || n != tariffs.len() {
             return Err(Unopened {
                 refusal: Refusal::NotOpened,
                 slots,

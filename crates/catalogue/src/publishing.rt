@@ -8,7 +8,6 @@ ghost use Rattle.catalogue.specs.Held.{held, WritesSlot};
 
 use crate::memory::Catalogue;
 use crate::refusing::Refusal;
-use crate::rivals::clashing;
 use crate::slot::{Slot, State};
 
 impl<T: Drop> Catalogue<T> {
@@ -17,23 +16,17 @@ impl<T: Drop> Catalogue<T> {
         ensures judged { Judged (held self.old) (publish place) (told result) (held self.new) }
         ensures stored { MatchResult result (λ _. WritesSlot self.old self.new place (restated Published)) (λ _. self.new ≡ self.old) }
     {
-        if place >= self.slots.len() {
-            return Err(Refusal::NoSuchPlace);
-        }
-        let slot = self.slots[place];
+        let slot = self.slot(place)?;
         match slot.state {
             State::Empty => Err(Refusal::EmptyPlace),
             State::Published => Err(Refusal::AlreadyPublished),
-            State::InWork => match clashing(&self.slots, place, &slot.head) {
-                Some(other) => Err(Refusal::SharesDay(other)),
-                None => {
-                    self.slots[place] = Slot {
-                        state: State::Published,
-                        head: slot.head,
-                    };
-                    Ok(())
-                }
-            },
+            State::InWork => self.put(
+                place,
+                Slot {
+                    state: State::Published,
+                    ..slot
+                },
+            ),
         }
     }
 }

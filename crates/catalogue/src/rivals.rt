@@ -19,11 +19,7 @@ impl Slot {
     fn bars(&self, head: &Head) -> bool
         ensures { result ≡ bars_slot (head_data head.now) (slot_data self.now) }
     {
-        match self.state {
-            State::Published => meet(head, &self.head),
-            State::Empty => false,
-            State::InWork => false,
-        }
+        self.state == State::Published && meet(head, &self.head)
     }
 }
 
@@ -31,10 +27,8 @@ impl Slot {
 pub(crate) fn clashing(slots: &[Slot], place: usize, head: &Head) -> Option<usize>
     ensures { result ≡ first_other (bars_slot (head_data head.now)) (map slot_data slots.now) 0 place }
 {
-    for (i, slot) in slots.iter().enumerate() {
-        if i != place && slot.bars(head) {
-            return Some(i);
-        }
-    }
-    None
+    slots
+        .iter()
+        .enumerate()
+        .position(|(i, slot)| i != place && slot.bars(head))
 }

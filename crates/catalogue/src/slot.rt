@@ -18,6 +18,7 @@ pub enum State {
 }
 
 /// The state of a place, and its head unless it is empty.
+// Opening and deleting change the state alone, so the memory of an empty place still holds a head.
 #[derive(Clone, Copy)]
 pub struct Slot {
     pub(crate) state: State,

@@ -7,34 +7,23 @@ use std::test::Fail;
 
 // The number of a refusal, or 0 where there was none.
 pub fn number(answer: Result<(), Refusal>) -> u16 {
-    match answer {
-        Ok(()) => 0,
-        Err(refusal) => refusal.number(),
-    }
+    answer.err().map_or(0, |refusal| refusal.number())
 }
 
 // The number that an enter of tariff 5 is refused with, or 0.
 pub fn entering(catalogue: &mut Catalogue<u32>, place: usize, head: &RawHead) -> u16 {
-    match catalogue.enter(place, head, 5) {
-        Ok(()) => 0,
-        Err((refusal, _)) => refusal.number(),
-    }
+    let declined = catalogue.enter(place, head, 5).err();
+    declined.map_or(0, |(refusal, _)| refusal.number())
 }
 
 // The last day of the offer published at a place, or 0.
 pub fn last_at<T>(catalogue: &Catalogue<T>, place: usize) -> u16 {
-    match catalogue.offer(place) {
-        Some((head, _)) => head.last(),
-        None => 0,
-    }
+    catalogue.offer(place).map_or(0, |(head, _)| head.last())
 }
 
 // The tariff published at a place, or another.
 fn tariff_at<T: Copy>(catalogue: &Catalogue<T>, place: usize, other: T) -> T {
-    match catalogue.offer(place) {
-        Some((_, tariff)) => *tariff,
-        None => other,
-    }
+    catalogue.offer(place).map_or(other, |(_, tariff)| *tariff)
 }
 
 #[test]

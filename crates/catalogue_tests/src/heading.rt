@@ -5,10 +5,7 @@ use std::test::Fail;
 
 // 1 where this text is a name, else 0.
 fn named(text: &[u8]) -> u16 {
-    match Name::new(text) {
-        Some(_) => 1,
-        None => 0,
-    }
+    u16::from(Name::new(text).is_some())
 }
 
 #[test]
@@ -32,10 +29,7 @@ fn bytes_of_names(rt: HostRuntime) -> Result<(), Fail> {
 
 // 1 where the values of a head keep the rules, else 0.
 fn sound(raw: &RawHead) -> u16 {
-    match Head::new(raw) {
-        Some(_) => 1,
-        None => 0,
-    }
+    u16::from(Head::new(raw).is_some())
 }
 
 // 1 where a head with these days keeps the rules, else 0.
@@ -97,10 +91,7 @@ fn terms_and_cards(rt: HostRuntime) -> Result<(), Fail> {
 
 // The head of these values, or one that stands for none.
 fn headed(raw: &RawHead) -> Head {
-    match Head::new(raw) {
-        Some(head) => head,
-        None => Head::blank(),
-    }
+    Head::new(raw).unwrap_or(Head::blank())
 }
 
 #[test]
@@ -108,9 +99,9 @@ fn values_come_back(rt: HostRuntime) -> Result<(), Fail> {
     let head = headed(&subscription(rt.alloc(), 126, 10, 20)?);
     let told = [
         head.supplier(),
-        head.network().code() as u16,
-        head.contract().code() as u16,
-        head.term() as u16,
+        u16::from(u8::from(head.network())),
+        u16::from(u8::from(head.contract())),
+        u16::from(head.term()),
         head.first(),
         head.last(),
     ];

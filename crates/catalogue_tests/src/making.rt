@@ -30,10 +30,7 @@ pub fn opened<T: Clone + Drop>(
 ) -> Result<Catalogue<T>, Fail> {
     let slots = vec![in heap; Slot::empty(); places]?;
     let tariffs = vec![in heap; tariff; places]?;
-    match Catalogue::open(slots, tariffs) {
-        Ok(catalogue) => Ok(catalogue),
-        Err(_) => Err(Fail::new("not opened")),
-    }
+    Catalogue::open(slots, tariffs).map_err(|_| Fail::new("not opened"))
 }
 
 /// Fails with these words unless the condition holds.
@@ -53,12 +50,9 @@ pub fn check_count(told: usize, wanted: usize, words: &str) -> Result<(), Fail> 
 /// Whether a test was told these numbers.
 pub fn check_told(told: &[u16], wanted: &[u16]) -> Result<(), Fail> {
     check_count(told.len(), wanted.len(), "numbers")?;
-    for i in 0..told.len() {
-        if i < wanted.len() {
-            let (number, other) = (told[i], wanted[i]);
-            if number != other {
-                return Err(Fail::new(format_args!("{number} and not {other} at {i}")));
-            }
+    for (at, (number, other)) in told.iter().zip(wanted).enumerate() {
+        if number != other {
+            return Err(Fail::new(format_args!("{number} and not {other} at {at}")));
         }
     }
     Ok(())

@@ -1,11 +1,11 @@
 -- What every head keeps to, and when two heads share a day. Assumes nothing.
-use Rattle.std.proofs.Common.{◌≡◌, ◌≢◌, ℕ, Result, Ok, Err, MatchOption, ◌<◌, ◌≤◌, ◌⊎◌, List, length, get_or, refl, ap, ◌∙◌, inl, inr, ⊎_elim, arith}
+use Rattle.std.proofs.Common.{◌≡◌, ◌≢◌, ℕ, Result, Ok, Err, None, ◌<◌, ◌≤◌, ◌⊎◌, length, get_or, refl, inl, inr, ⊎_elim, arith}
 use Rattle.std.proofs.lemmas.Bool.{cases_lt, cases_eq}
 use Rattle.std.specs.Result.{result_ok}
 use Rattle.heads.specs.Kinds.{network_code, contract_code}
 use Rattle.heads.specs.Codes.{Decodes}
 use Rattle.heads.specs.declared.kinds.UnknownCode.{UnknownCode}
-use Rattle.heads.specs.Rules.{HeadData, head_of, SoundHead, ShareADay}
+use Rattle.heads.specs.Rules.{HeadData, SoundHead, ShareADay}
 use Rattle.heads.specs.Heads.{head_data}
 use Rattle.heads.specs.declared.head.Head.{Head}
 use Rattle.heads.specs.declared.kinds.Network.{Network}
@@ -22,10 +22,10 @@ pub contract_known : (c : Contract) → (contract_code c ≡ 1) ⊎ (contract_co
 contract_known Subscription = inl refl
 contract_known Card = inr refl
 
--- what `ok` keeps of a kind that a code gave
-pub decoded : {Kind : Type 0} (number : Kind → ℕ) (code : ℕ) (r : Result Kind UnknownCode) → Decodes number code r → MatchOption (result_ok r) ((kind : Kind) → number kind ≢ code) (λ kind. number kind ≡ code)
-decoded number code (Ok kind) d = d
-decoded number code (Err e) d = d.1
+-- where `ok` keeps no kind of a code, no kind has it
+pub undecoded : {Kind : Type 0} (number : Kind → ℕ) (code : ℕ) (r : Result Kind UnknownCode) → Decodes number code r → None ≡ result_ok r → (kind : Kind) → number kind ≢ code
+undecoded number code (Ok k) d e = cc
+undecoded number code (Err u) d e = d.1
 
 -- every head keeps the rules
 pub head_sound : (h : Head) → SoundHead (head_data h)
@@ -41,11 +41,6 @@ head_sound h = record {
   card_mobile = h.mobile;
   card_termless = h.termless;
 }
-
--- equal values make equal heads
-pub same_values : (s t f l : ℕ) {n m : List ℕ} {w v c d : ℕ} → n ≡ m → w ≡ v → c ≡ d → head_of s n w c t f l ≡ head_of s m v d t f l
-same_values s t f l {n} {m} {w} {v} {c} {d} p q r =
-    ap (λ (x : List ℕ). head_of s x w c t f l) p ∙ ap (λ (x : ℕ). head_of s m x c t f l) q ∙ ap (λ (x : ℕ). head_of s m v x t f l) r
 
 -- spans whose ends cross share a day
 pub crossing : (h k : HeadData) → h.first ≤ h.last → k.first ≤ k.last → h.first ≤ k.last → k.first ≤ h.last → ShareADay h k

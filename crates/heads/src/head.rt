@@ -1,6 +1,7 @@
 //! The head of an offer.
 ghost use Rattle.std.specs.Prelude.{◌≡◌, ◌≤◌};
 ghost use Rattle.heads.specs.Kinds.{network_code, contract_code};
+ghost use Rattle.heads.specs.declared.head.TheConstants.{LONGEST_TERM, LATEST_FIRST};
 
 use crate::kinds::{Contract, Network};
 use crate::name::Name;
@@ -22,8 +23,8 @@ pub struct Head {
     pub(crate) first: u16,
     pub(crate) last: u16,
     ghost known: { supplier ≤ 65535 },
-    ghost bound: { term ≤ 60 },
-    ghost begins: { first ≤ 65534 },
+    ghost bound: { term ≤ LONGEST_TERM },
+    ghost begins: { first ≤ LATEST_FIRST },
     ghost ends: { last ≤ 65535 },
     ghost ordered: { first ≤ last },
     ghost mobile: { contract_code contract ≡ 2 → network_code network ≡ 2 },

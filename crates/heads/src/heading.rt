@@ -1,13 +1,12 @@
 //! Heads from raw values, and how two heads compare.
 ghost use Rattle.std.specs.Prelude.{◌≡◌, ◌<◌, ◌≤◌, Decides, MatchOption};
 ghost use Rattle.heads.specs.Kinds.{network_code, contract_code};
-ghost use Rattle.heads.specs.Rules.{head_of, SoundHead, On, Namesakes, ShareADay, ending, blank};
-ghost use Rattle.heads.specs.Names.{text_of};
+ghost use Rattle.heads.specs.Rules.{SoundHead, On, Namesakes, ShareADay, ending, blank};
 ghost use Rattle.heads.specs.Heads.{head_data, raw_data};
 
 use crate::head::{Head, LATEST_FIRST, LONGEST_TERM};
 use crate::kinds::{Contract, Network};
-use crate::name::Name;
+use crate::name::{MOST_BYTES, Name};
 use crate::raw::RawHead;
 
 impl Head {
@@ -18,29 +17,7 @@ impl Head {
         let name = Name::new(&raw.name)?;
         let network = Network::try_from(raw.network).ok()?;
         let contract = Contract::try_from(raw.contract).ok()?;
-        Head::of(
-            raw.supplier,
-            name,
-            network,
-            contract,
-            raw.term,
-            raw.first,
-            raw.last,
-        )
-    }
-
-    // The head of these values, if they keep the rules.
-    fn of(
-        supplier: u16,
-        name: Name,
-        network: Network,
-        contract: Contract,
-        term: u8,
-        first: u16,
-        last: u16,
-    ) -> Option<Head>
-        ensures { MatchOption result (SoundHead (head_of supplier (text_of name) (network_code network) (contract_code contract) term first last) → ⊥) (λ h. SoundHead (head_of supplier (text_of name) (network_code network) (contract_code contract) term first last) × (head_data h ≡ head_of supplier (text_of name) (network_code network) (contract_code contract) term first last)) }
-    {
+        let (supplier, term, first, last) = (raw.supplier, raw.term, raw.first, raw.last);
         if term > LONGEST_TERM
             || first > LATEST_FIRST
             || last < first
@@ -63,12 +40,11 @@ impl Head {
     pub fn blank() -> Head
         ensures { head_data result ≡ blank }
     {
-        let mut bytes = [0; 24];
-        bytes[0] = 32;
-        let name = Name { bytes, len: 1 };
+        let mut bytes = [0; MOST_BYTES];
+        bytes[0] = b' ';
         Head {
             supplier: 0,
-            name,
+            name: Name { bytes, len: 1 },
             network: Network::Fixed,
             contract: Contract::Subscription,
             term: 0,
@@ -81,26 +57,19 @@ impl Head {
     pub fn with_last(&self, last: u16) -> Option<Head>
         ensures { MatchOption result (last < (head_data self.now).first) (λ h. ((head_data self.now).first ≤ last) × (head_data h ≡ ending (head_data self.now) last)) }
     {
-        let first = self.first;
-        if last < first {
+        if last < self.first {
             return None;
         }
-        Some(Head {
-            supplier: self.supplier,
-            name: self.name,
-            network: self.network,
-            contract: self.contract,
-            term: self.term,
-            first,
-            last,
-        })
+        let mut head = *self;
+        head.last = last;
+        Some(head)
     }
 
     /// Whether the day is from the first to the last, both counted.
     pub fn is_on(&self, day: u16) -> bool
         ensures { Decides result (On (head_data self.now) day) }
     {
-        self.first <= day && day <= self.last
+        (self.first..=self.last).contains(&day)
     }
 
     /// Whether two heads have the same supplier and the same name.
@@ -122,11 +91,8 @@ impl Head {
 fn suits(network: Network, contract: Contract, term: u8) -> bool
     ensures { Decides result (contract_code contract ≡ 2 → (network_code network ≡ 2) × (term ≡ 0)) }
 {
-    match contract {
-        Contract::Subscription => true,
-        Contract::Card => match network {
-            Network::Fixed => false,
-            Network::Mobile => term == 0,
-        },
-    }
+    matches!(
+        (contract, network, term),
+        (Contract::Subscription, _, _) | (Contract::Card, Network::Mobile, 0)
+    )
 }

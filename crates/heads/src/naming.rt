@@ -14,10 +14,8 @@ impl Name {
         if len == 0 || len > MOST_BYTES || !are_printable(text) {
             return None;
         }
-        let mut bytes = [0; 24];
-        for i in 0..len {
-            bytes[i] = text[i];
-        }
+        let mut bytes = [0; MOST_BYTES];
+        bytes[..len].copy_from_slice(text);
         Some(Name { bytes, len })
     }
 
@@ -26,33 +24,20 @@ impl Name {
         ensures is { result.now ≡ text_of self.now }
         ensures fits { NameText result.now }
     {
-        let len = self.len;
-        &self.bytes[0..len]
+        &self.bytes[..self.len]
     }
 
     /// Whether two names are the same text.
     pub fn is_same(&self, other: &Name) -> bool
         ensures { Decides result (text_of self.now ≡ text_of other.now) }
     {
-        are_same(self.text(), other.text())
+        self == other
     }
 }
 
-// Whether two texts are the same.
-fn are_same(text: &[u8], other: &[u8]) -> bool
-    ensures { Decides result (text.now ≡ other.now) }
-{
-    text == other
-}
-
-// Whether each byte may stand in a name.
+// Whether each byte may stand in a name: those from 32 to 126.
 fn are_printable(text: &[u8]) -> bool
     ensures { result ≡ printable text.now }
 {
-    for byte in text {
-        if *byte < 32 || *byte > 126 {
-            return false;
-        }
-    }
-    true
+    text.iter().all(|byte| (b' '..=b'~').contains(byte))
 }

@@ -1,64 +1,39 @@
-use Rattle.std.proofs.Common.{vec_items, refl, arith}
-use Rattle.std.proofs.lemmas.List.{map-set}
+use Rattle.std.proofs.Common.{refl}
+use Rattle.std.proofs.lemmas.Result.{err_from_is_err_and}
 use Rattle.heads.specs.Heads.{head_data}
 use Rattle.catalogue.specs.declared.slot.State.TheVariants.{Empty, Published}
 use Rattle.catalogue.specs.Calls.{delete}
-use Rattle.catalogue.specs.Slots.{slot_data}
+use Rattle.catalogue.specs.Slots.{restated}
 use Rattle.catalogue.specs.Held.{held}
 use Rattle.catalogue.proofs.Judging.{judge_missing, delete_at_empty, delete_taken}
-use Rattle.catalogue.proofs.Holding.{none_at, slot_at, stands, tariff_at}
-use Rattle.catalogue.proofs.Doing.{slot, with_slot, apart_after, deleting}
+use Rattle.catalogue.proofs.Holding.{stands, tariff_at}
+use Rattle.catalogue.proofs.Doing.{slot, put_empty, put_stored}
 use Rattle.catalogue.proofs.memory.Catalogue.delete.Goals as goal
 
-pub returns-then-place-len : goal.returns-then-place-len
-returns-then-place-len g c =
-    let m = c.args.self.now in
-    record {
-      judged = judge_missing (held m) (delete c.args.place) (none_at m c.args.place (omega arith));
-      stored = refl {a = m};
-    }
+pub returns-in_err-slot-clause-judged : goal.returns-in_err-slot-clause-judged
+returns-in_err-slot-clause-judged g c =
+    let p = err_from_is_err_and c.from_residual.result c.from_residual.ensures.1 in
+    rw (p.1, p.2, c.in_err-slot.ensures.0) (judge_missing (held c.args.self.now) (delete c.args.place) c.in_err-slot.ensures.1)
 
-pub returns-in-Empty : goal.returns-in-Empty
-returns-in-Empty g c =
+pub returns-in-Empty-clause-judged : goal.returns-in-Empty-clause-judged
+returns-in-Empty-clause-judged g c =
     let m = c.args.self.now in
-    let p = c.args.place in
-    let s = c.index-slot.result.now in
-    let u = tariff_at m p (omega arith) in
-    let at = stands m p s Empty u.0 (omega arith) c.index-slot.ensures c.in-Empty.is u.1 in
-    record { judged = delete_at_empty (held m) p at; stored = refl {a = m} }
+    let at = c.in_ok-slot.ensures in
+    let u = tariff_at m c.args.place at.inside in
+    delete_at_empty (held m) c.args.place (stands m c.args.place c.in_ok-slot.slot Empty u.0 at c.in-Empty.is u.1)
 
-pub returns-in-Published : goal.returns-in-Published
-returns-in-Published g c =
+pub returns-in-Published-clause-judged : goal.returns-in-Published-clause-judged
+returns-in-Published-clause-judged g c =
     let m = c.args.self.now in
-    let p = c.args.place in
-    let s = c.index-slot.result.now in
-    let u = tariff_at m p (omega arith) in
-    let at = stands m p s Published u.0 (omega arith) c.index-slot.ensures c.in-Published.is u.1 in
-    record { judged = delete_taken (held m) p (head_data s.head) u.0 at; stored = refl {a = m} }
+    let s = c.in_ok-slot.slot in
+    let at = c.in_ok-slot.ensures in
+    let u = tariff_at m c.args.place at.inside in
+    delete_taken (held m) c.args.place (head_data s.head) u.0 (stands m c.args.place s Published u.0 at c.in-Published.is u.1)
 
-pub returns-in-InWork : goal.returns-in-InWork
-returns-in-InWork g c =
-    let m = c.args.self.now in
-    let p = c.args.place in
-    let s = c.index-slot.result.now in
-    record {
-      judged = deleting m p s (omega arith, c.index-slot.ensures) c.in-InWork.is;
-      stored = record {
-        was = slot_data s;
-        found = slot_at m p s (omega arith) c.index-slot.ensures;
-        slots = map-set slot_data (vec_items m.slots) p (slot Empty s.head);
-        tariffs = refl;
-      };
-    }
+pub returns-in-InWork-clause-judged : goal.returns-in-InWork-clause-judged
+returns-in-InWork-clause-judged g c = put_empty c.args.self.now c.put.new.self c.args.place c.in_ok-slot.slot c.in_ok-slot.ensures c.in-InWork.is c.put.result c.put.ensures
 
-pub invariant_of-self : goal.invariant_of-self
-invariant_of-self g c =
-    let m = c.args.self.now in
-    let p = c.args.place in
-    let s = c.index-slot.result.now in
-    record {
-      level = m.level;
-      some = m.some;
-      few = m.few;
-      apart = apart_after m p (delete p) (with_slot m p (slot Empty s.head)) (deleting m p s (omega arith, c.index-slot.ensures) c.in-InWork.is);
-    }
+pub returns-in-InWork-clause-stored : goal.returns-in-InWork-clause-stored
+returns-in-InWork-clause-stored g c =
+    let s = c.in_ok-slot.slot in
+    put_stored c.args.self.now c.put.new.self c.args.place s (slot Empty s.head) (restated Empty) c.in_ok-slot.ensures refl c.put.result c.put.ensures

@@ -1,55 +1,25 @@
-use Rattle.std.proofs.Common.{set, vec_items, refl, ap, ◌∙◌, arith}
+use Rattle.std.proofs.Common.{set, vec_items, refl, ap, ◌∙◌}
 use Rattle.std.proofs.lemmas.List.{map-set}
 use Rattle.heads.specs.Rules.{HeadData}
-use Rattle.heads.specs.Heads.{head_data, raw_data}
-use Rattle.catalogue.specs.declared.slot.State.TheVariants.{InWork, Published}
+use Rattle.heads.specs.Heads.{raw_data}
+use Rattle.catalogue.specs.declared.slot.State.TheVariants.{InWork}
 use Rattle.catalogue.specs.Calls.{enter}
 use Rattle.catalogue.specs.Slots.{slot_data, slot_of}
-use Rattle.catalogue.specs.Held.{memory, held}
-use Rattle.catalogue.proofs.Judging.{judge_missing, enter_unsound, enter_taken}
-use Rattle.catalogue.proofs.Holding.{none_at, some_at, stands, tariff_at}
+use Rattle.catalogue.specs.Held.{memory}
 use Rattle.catalogue.proofs.Doing.{slot, with_both, entering, apart_after}
 use Rattle.catalogue.proofs.memory.Catalogue.enter.Goals as goal
 
-pub returns-then-place-len : goal.returns-then-place-len
-returns-then-place-len g c =
-    let m = c.args.self.now in
-    record {
-      judged = judge_missing (held m) (enter c.args.place (raw_data c.args.head.now) c.args.tariff) (none_at m c.args.place (omega arith));
-      stored = (refl {a = m}, refl);
-    }
+pub returns-in-Ok-clause-judged : goal.returns-in-Ok-clause-judged
+returns-in-Ok-clause-judged g c =
+    let e = c.in-Ok.ensures in
+    entering c.args.self.now c.args.place c.in-Ok.head (raw_data c.args.head.now) c.args.tariff e.1 (e.2 c.args.tariff)
 
-pub returns-in_default : goal.returns-in_default
-returns-in_default g c =
+pub returns-in-Ok-clause-stored : goal.returns-in-Ok-clause-stored
+returns-in-Ok-clause-stored g c =
     let m = c.args.self.now in
-    let x = some_at m c.args.place (omega arith) in
     record {
-      judged = enter_unsound (held m) c.args.place (raw_data c.args.head.now) c.args.tariff x.0 x.1 c.in_default.ensures;
-      stored = (refl {a = m}, refl);
-    }
-
-pub returns-in-Published : goal.returns-in-Published
-returns-in-Published g c =
-    let m = c.args.self.now in
-    let s = c.index.result.now in
-    let u = tariff_at m c.args.place (omega arith) in
-    record {
-      judged = enter_taken (held m) c.args.place (raw_data c.args.head.now) c.args.tariff (head_data s.head) u.0
-          (stands m c.args.place s Published u.0 (omega arith) c.index.ensures c.in-Published.is u.1) c.in-Some.ensures.0;
-      stored = (refl {a = m}, refl);
-    }
-
-pub returns-in-Empty : goal.returns-in-Empty
-returns-in-Empty g c =
-    let m = c.args.self.now in
-    let e = c.in-Some.ensures in
-    let n = slot InWork c.in-Some.head in
-    record {
-      judged = entering m c.args.place c.index.result.now c.in-Some.head (raw_data c.args.head.now) c.args.tariff (omega arith, c.index.ensures) c.in-Empty.is e.1 e.0;
-      stored = record {
-        slots = map-set slot_data (vec_items m.slots) c.args.place n ∙ ap (λ (h : HeadData). set (memory m) c.args.place (slot_of InWork h)) e.1;
-        tariffs = refl {a = set (vec_items m.tariffs) c.args.place c.args.tariff};
-      };
+      slots = map-set slot_data (vec_items m.slots) c.args.place (slot InWork c.in-Ok.head) ∙ ap (λ (h : HeadData). set (memory m) c.args.place (slot_of InWork h)) c.in-Ok.ensures.1;
+      tariffs = refl {a = set (vec_items m.tariffs) c.args.place c.args.tariff};
     }
 
 pub invariant_of-self : goal.invariant_of-self
@@ -58,11 +28,9 @@ invariant_of-self g c =
     let p = c.args.place in
     let t = c.args.tariff in
     let h = raw_data c.args.head.now in
-    let e = c.in-Some.ensures in
-    let n = slot InWork c.in-Some.head in record {
+    let e = c.in-Ok.ensures in record {
       level = m.level;
       some = m.some;
       few = m.few;
-      apart = apart_after m p (enter p h t) (with_both m p n t)
-          (entering m p c.index.result.now c.in-Some.head h t (omega arith, c.index.ensures) c.in-Empty.is e.1 e.0);
+      apart = apart_after m p (enter p h t) (with_both m p (slot InWork c.in-Ok.head) t) (entering m p c.in-Ok.head h t e.1 (e.2 t));
     }

@@ -1,30 +1,31 @@
-use Rattle.std.proofs.Common.{◌≡◌, ℕ, sym, ◌∙◌, arith}
-use Rattle.catalogue.specs.declared.slot.State.TheVariants.{Empty, InWork, Published}
-use Rattle.catalogue.proofs.Holding.{none_at, stands, tariff_at, tariff_read}
+use Rattle.std.proofs.Common.{◌≡◌, Bool, true, false, Some, MatchOption, refl, sym, ◌∙◌, vec_items, vec_len, ◌≤◌, arith}
+use Rattle.std.specs.Bool.{then_some}
+use Rattle.std.specs.List.{slice_get}
+use Rattle.std.proofs.lemmas.Grind.{common_steps}
+use Rattle.std.proofs.lemmas.Option.{gets}
+use Rattle.catalogue.specs.declared.slot.State.TheVariants.{Published}
+use Rattle.catalogue.proofs.Holding.{none_at, found_at, stands, tariff_read, unpublished}
+use Rattle.catalogue.proofs.Doing.{public, not_public}
 use Rattle.catalogue.proofs.memory.Catalogue.offer.Goals as goal
 
-pub returns-then-place-len : goal.returns-then-place-len
-returns-then-place-len g c = λ h t e.
-    let q = sym (none_at c.args.self.now c.args.place (omega arith)) ∙ e in
-    let z : ◌≡◌ {A = ℕ} 0 1 = cc in omega arith
+pub returns-in_err-slot : goal.returns-in_err-slot
+returns-in_err-slot g c =
+    let past : vec_len c.args.self.now.slots ≤ c.args.place = grind (arith, common_steps) in
+    rw c.from_residual.ensures (λ h t e. let q = sym (none_at c.args.self.now c.args.place past) ∙ e in cc)
 
-pub returns-in-Empty : goal.returns-in-Empty
-returns-in-Empty g c =
-    let m = c.args.self.now in
-    let u = tariff_at m c.args.place (omega arith) in
-    let at = stands m c.args.place c.index-slot.result.now Empty u.0 (omega arith) c.index-slot.ensures c.in-Empty.is u.1 in
-    λ h t e. let q = sym at ∙ e in let z : ◌≡◌ {A = ℕ} 0 1 = cc in omega arith
+-- what `then_some` gives, by the test
+offered : {A : Type 0} (b : Bool) (x : A) (P : Type 0) (Q : A → Type 0) → (b ≡ true → Q x) → (b ≡ false → P) → MatchOption (then_some b x) P Q
+offered true x P Q holds fails = holds refl
+offered false x P Q holds fails = fails refl
 
-pub returns-in-InWork : goal.returns-in-InWork
-returns-in-InWork g c =
+pub returns : goal.returns
+returns g c =
     let m = c.args.self.now in
-    let u = tariff_at m c.args.place (omega arith) in
-    let at = stands m c.args.place c.index-slot.result.now InWork u.0 (omega arith) c.index-slot.ensures c.in-InWork.is u.1 in
-    λ h t e. let q = sym at ∙ e in let z : ◌≡◌ {A = ℕ} 0 1 = cc in omega arith
-
-pub returns-in-Published : goal.returns-in-Published
-returns-in-Published g c =
-    let m = c.args.self.now in
+    let s = c.in_ok-slot.slot.now in
     let t = c.index.result.now in
-    stands m c.args.place c.index-slot.result.now Published t (omega arith) c.index-slot.ensures c.in-Published.is
-    (tariff_read m c.args.place t (omega arith) c.index.ensures)
+    let found : slice_get (vec_items m.slots) c.args.place ≡ Some s = grind (arith, common_steps, gets) in
+    let at = found_at m c.args.place s found in
+    rw c.then_some.ensures
+    (offered c.eq.result _ _ _
+    (λ e. stands m c.args.place s Published t at (public s.state (sym e ∙ c.eq.ensures)) (tariff_read m c.args.place t at.inside c.index.ensures))
+    (λ e. unpublished m c.args.place s at (not_public s.state (sym e ∙ c.eq.ensures))))

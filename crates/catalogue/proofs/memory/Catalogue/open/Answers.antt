@@ -1,4 +1,4 @@
-use Rattle.std.proofs.Common.{◌≡◌, ℕ, ◌<◌, ◌≤◌, List, ◌++◌, map, length, take, drop, vec_items, Vec, sym, refl, ap, ◌∙◌, subst, arith}
+use Rattle.std.proofs.Common.{◌≡◌, ℕ, ◌<◌, ◌≤◌, List, ◌++◌, map, length, take, drop, vec_items, Vec, sym, refl, ap, ◌∙◌, subst, arith, rules, tests}
 use Rattle.std.specs.declared.alloc.Global.{Global}
 use Rattle.std.specs.Vec.{with_items}
 use Rattle.std.proofs.lemmas.List.{get_or_default, with_items_is}
@@ -20,19 +20,14 @@ emptied-all : (v : Vec Slot Global) (xs ys : List Slot) (i : ℕ) → xs ≡ vec
     → (with_items v ys).items ≡ map clear (vec_items v)
 emptied-all v xs ys i e l h inv = with_items_is v ys l ∙ map_over_all clear xs ys i h inv ∙ ap (λ (zs : List Slot). map clear zs) e
 
-pub invariant_of-result : goal.invariant_of-result
-invariant_of-result g c =
+pub invariant_of-result-clause-apart : goal.invariant_of-result-clause-apart
+invariant_of-result-clause-apart g c =
     let v = c.args.slots in
     let o = v.ok.0 in
     let q = c.args.tariffs.ok.0 in
     let is = emptied-all v c.deref_mut-slot-items.result.now c.loop-slot.slot-items c.loop-slot.slot-index c.deref_mut-slot-items.ensures.value (omega arith) c.loop-slot-test.false c.loop-slot.invariant in
     let book = opened_book (vec_items v) (with_items v c.loop-slot.slot-items).items (vec_items c.args.tariffs) is (omega arith) in
-    record {
-      level = omega arith;
-      some = omega arith;
-      few = omega arith;
-      apart = subst (λ (b : Book g.row.T.Denot). Apart b) (sym book) (opened_apart (length (vec_items v)));
-    }
+    subst (λ (b : Book g.row.T.Denot). Apart b) (sym book) (opened_apart (length (vec_items v)))
 
 pub returns : goal.returns
 returns g c =
@@ -41,7 +36,7 @@ returns g c =
     let q = c.args.tariffs.ok.0 in
     let is = emptied-all v c.deref_mut-slot-items.result.now c.loop-slot.slot-items c.loop-slot.slot-index c.deref_mut-slot-items.ensures.value (omega arith) c.loop-slot-test.false c.loop-slot.invariant in
     let book = opened_book (vec_items v) (with_items v c.loop-slot.slot-items).items (vec_items c.args.tariffs) is (omega arith) in (
-      (omega arith, omega arith, omega arith),
+      (search (rules, tests), search (rules, tests), omega arith),
       book ∙ ap all_empty (sym o),
       ap (λ (zs : List Slot). map slot_data zs) is ∙ cleared_data (vec_items v),
       refl,

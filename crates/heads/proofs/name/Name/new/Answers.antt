@@ -1,7 +1,7 @@
-use Rattle.std.proofs.Common.{◌≡◌, ℕ, true, length, sym, ◌∙◌, subst, arith}
+use Rattle.std.proofs.Common.{sym, ◌∙◌, arith}
 use Rattle.std.proofs.lemmas.Bool.{both_ways}
 use Rattle.heads.specs.Texts.{printable}
-use Rattle.heads.proofs.TextLaws.{Copied, copied_all, copied_low, copied_high, text_printable, printable_all}
+use Rattle.heads.proofs.TextLaws.{text_printable, padded_behind, padded_bytes, padded_high}
 use Rattle.heads.proofs.name.Name.new.Goals as goal
 use Rattle.heads.proofs.name.Name.new.Goals.{then-len-eq0-via-then-len-eq0, then-len-eq0-via-else-len-eq0+then-len-gt-MOST_BYTES, then-len-eq0-via-else-len-eq0+else-len-gt-MOST_BYTES+then-not-are_printable}
 
@@ -13,27 +13,11 @@ returns-then-len-eq0 c = λ t. elim c.then-len-eq0.branch [
       both_ways (printable c.args.text.now) (sym w.are_printable.ensures ∙ w.if-not-are_printable.true) (text_printable c.args.text.now t)
 ]
 
-pub invariant_of-result : goal.invariant_of-result
-invariant_of-result c =
-    let text = c.args.text.now in
-    let fits : printable text ≡ true = sym c.are_printable.ensures ∙ c.if-not-are_printable.false in
-    let all : c.loop-i.i ≡ length text = omega arith in
-    let copied : Copied text c.loop-i.bytes (length text) = subst (λ (i : ℕ). Copied text c.loop-i.bytes i) all c.loop-i.invariant in
-    record {
-      room = copied.room;
-      some = omega arith;
-      short = omega arith;
-      low = copied_low text c.loop-i.bytes fits copied;
-      high = copied_high text c.loop-i.bytes fits copied;
-      behind = copied.behind;
-    }
+pub invariant_of-result-clause-low : goal.invariant_of-result-clause-low
+invariant_of-result-clause-low c = λ k lt. rw c.copy_from_slice.ensures.after (padded_bytes c.args.text.now (sym c.are_printable.ensures ∙ c.if-not-are_printable.false) k lt).0
 
-pub returns : goal.returns
-returns c =
-    let text = c.args.text.now in
-    let fits : printable text ≡ true = sym c.are_printable.ensures ∙ c.if-not-are_printable.false in
-    let all : c.loop-i.i ≡ length text = omega arith in
-    let copied : Copied text c.loop-i.bytes (length text) = subst (λ (i : ℕ). Copied text c.loop-i.bytes i) all c.loop-i.invariant in (
-      record { some = omega arith; short = omega arith; low = λ k h. (printable_all text fits k h).0; high = λ k h. (printable_all text fits k h).1 },
-      copied_all text c.loop-i.bytes (omega arith) copied,
-    )
+pub invariant_of-result-clause-high : goal.invariant_of-result-clause-high
+invariant_of-result-clause-high c = λ k. rw c.copy_from_slice.ensures.after (padded_high c.args.text.now (sym c.are_printable.ensures ∙ c.if-not-are_printable.false) k)
+
+pub invariant_of-result-clause-behind : goal.invariant_of-result-clause-behind
+invariant_of-result-clause-behind c = λ k le. rw c.copy_from_slice.ensures.after (padded_behind c.args.text.now k le)
