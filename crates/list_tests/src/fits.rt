@@ -12,11 +12,7 @@ use std::test::Fail;
 // 1 where the one offer of a catalogue is listed, 0 where none is, 2 for a refusal.
 fn shown(catalogue: &Catalogue<Plan>, asked: &Enquiry) -> u16 {
     let mut memory = [stale(); 1];
-    match list(catalogue, asked, &mut memory) {
-        Ok((1, 1)) => 1,
-        Ok(_) => 0,
-        Err(_) => 2,
-    }
+    list(catalogue, asked, &mut memory).map_or(2, |told| u16::from(told == (1, 1)))
 }
 
 // A catalogue of one offer, which serves seat 0 from day 10 to day 20.

@@ -19,10 +19,9 @@ fn number(
 ) -> u16 {
     asked.length = length;
     asked.day = day;
-    match list(catalogue, asked, memory) {
-        Ok(_) => 0,
-        Err(refusal) => refusal.number(),
-    }
+    list(catalogue, asked, memory)
+        .err()
+        .map_or(0, |refusal| refusal.number())
 }
 
 #[test]

@@ -1,11 +1,12 @@
 -- From the list over plain offers to the list over the book, and back. Assumes nothing.
-use Rattle.std.proofs.Common.{◌≡◌, ℕ, zero, suc, ◌<◌, ◌≤◌, true, ◌&&◌, eqb, ltb, List, [], ◌∷◌, map, length, get_or, take, Some, None, sym, refl, ap, ◌∙◌, subst, inl, inr, ⊎_elim, arith}
+use Rattle.std.proofs.Common.{◌≡◌, ℕ, ◌<◌, ◌≤◌, true, ◌&&◌, eqb, ltb, List, [], ◌∷◌, map, length, get_or, take, Some, sym, refl, ap, ◌∙◌, subst, inl, inr, ⊎_elim, arith}
 use Rattle.std.specs.List.{slice_get}
 use Rattle.std.proofs.lemmas.List.{take-map, length-map}
+use Rattle.std.proofs.lemmas.Option.{slice_get_within, get_or_from_slice_get}
 use Rattle.std.proofs.lemmas.Bool.{ltb-true, lt-ltb, eqb-true, eq-eqb, and_parts, and_from, or_cases, or_left, or_right, cases_lt}
 use Rattle.tariff.specs.Totals.{Meaning}
 use Rattle.catalogue.specs.Books.{Book, Meeting, Apart as ApartBook}
-use Rattle.catalogue.proofs.Places.{none_some, same_some, nth_map, nth_within}
+use Rattle.catalogue.proofs.Places.{nth_map, nth_within}
 use Rattle.ordered.specs.Members.{Among}
 use Rattle.ordered.proofs.Members.{among_map, map_among, among_take}
 use Rattle.ordered.proofs.Places.{ascending_nth, nth_ascending, nth_of_map}
@@ -37,17 +38,6 @@ says_earlier : (l k : Line) → Earlier l k → earlier l k ≡ true
 says_earlier l k =
     ⊎_elim (λ h. or_left (ltb l.total k.total) (eqb l.total k.total && ltb l.place k.place) (lt-ltb _ _ h))
     (λ h. or_right (ltb l.total k.total) (eqb l.total k.total && ltb l.place k.place) (and_from _ _ (eq-eqb _ _ h.0) (lt-ltb _ _ h.1)))
-
--- what stands at a place is within the list, and is what a read gives
-nth_below : {X : Type 0} (xs : List X) (k : ℕ) (x : X) → slice_get xs k ≡ Some x → k < length xs
-nth_below [] k x e = absurd (none_some None x refl e)
-nth_below (y ∷ ys) zero x e = omega arith
-nth_below (y ∷ ys) (suc k) x e = omega (arith, nth_below ys k x e)
-
-nth_reads : {X : Type 0} (xs : List X) (k : ℕ) (x d : X) → slice_get xs k ≡ Some x → get_or xs k d ≡ x
-nth_reads [] k x d e = absurd (none_some None x refl e)
-nth_reads (y ∷ ys) zero x d e = same_some (Some y) y x refl e
-nth_reads (y ∷ ys) (suc k) x d e = nth_reads ys k x d e
 
 module _ {T : Type 0} (m : Meaning T) (q : EnquiryData) (b : Book T) where
   -- a placed offer as it waits to be costed
@@ -125,7 +115,7 @@ module _ {T : Type 0} (m : Meaning T) (q : EnquiryData) (b : Book T) where
   gathered_same os f k = ap (totals_of (offers m b q)) (take-map waits k os) ∙ totals_same (take k os) (λ o a. f o (among_take o k os a))
 
   floor_same : (os : List (Placed T)) (k : ℕ) (o : Placed T) → slice_get os k ≡ Some o → (get_or (map waits os) k (queued_of 0 0)).floor ≡ m.floor o.tariff
-  floor_same os k o at = ap (λ (x : Queued). x.floor) (nth_reads (map waits os) k (waits o) (queued_of 0 0) (nth_map waits os k o at))
+  floor_same os k o at = ap (λ (x : Queued). x.floor) (get_or_from_slice_get (map waits os) k (waits o) (queued_of 0 0) (nth_map waits os k o at))
 
   -- taking ends before a place, over plain offers and over the book
   ends_says : (os : List (Placed T)) → ((o : Placed T) → Among o os → Fits m b q o) → (k : ℕ) (o : Placed T) → slice_get os k ≡ Some o
@@ -153,7 +143,7 @@ module _ {T : Type 0} (m : Meaning T) (q : EnquiryData) (b : Book T) where
         in_turn = lines_turn os f (subst (LinedUp (offers m b q)) (sym w.2) c.is_queue);
         within = omega (arith, taken.within);
         goes_on = λ k o h at e. taken.goes_on k h (says_ends os f k o at e);
-        ends = λ o at. ⊎_elim (λ e. absurd (omega (arith, nth_below os n o at))) (λ e. ends_says os f n o at e) taken.ends;
+        ends = λ o at. ⊎_elim (λ e. absurd (omega (arith, slice_get_within os n o at))) (λ e. ends_says os f n o at e) taken.ends;
       }
 
   counted_by : (n : ℕ) → Costed m b q n → Counted q.length (offers m b q) n

@@ -1,7 +1,7 @@
 -- What the tests for a fitting offer say. Assumes nothing.
-use Rattle.std.proofs.Common.{◌≡◌, ℕ, zero, suc, ◌+◌, ◌<◌, ◌≤◌, Bool, true, false, ◌&&◌, ◌||◌, eqb, leb, List, [], ◌∷◌, length, get_or, drop, Some, None, sym, refl, ap, ◌∙◌, subst, inl, inr, ⊎_elim, arith}
-use Rattle.std.proofs.lemmas.List.{at_drop_more, at_drop_all}
-use Rattle.std.proofs.lemmas.Bool.{leb-true, le-leb, eqb-true, eq-eqb, ne_eqb, and_parts, and_from, or_cases, or_left, or_right, cases_eq, true≢false}
+use Rattle.std.proofs.Common.{◌≡◌, ℕ, zero, suc, ◌+◌, ◌<◌, ◌≤◌, Bool, true, false, ◌&&◌, ◌||◌, eqb, leb, List, [], ◌∷◌, get_or, Some, None, sym, refl, ap, ◌∙◌, subst, inl, inr, ⊎_elim, arith}
+use Rattle.std.specs.List.{list_all, enumerate_from}
+use Rattle.std.proofs.lemmas.Bool.{leb-true, le-leb, eqb-true, eq-eqb, and_parts, and_from, or_cases, or_left, or_right, cases_eq, true≢false}
 use Rattle.tariff.specs.Totals.{Meaning}
 use Rattle.heads.specs.Rules.{HeadData, On}
 use Rattle.catalogue.specs.Books.{Book, Place, empty, in_work, published, place_at}
@@ -81,24 +81,12 @@ served_true s us f = serves_from s 0 us (λ k h. let e : k ≡ 0 + k = omega ari
 true_served : (s : ℕ → Bool) (us : List ℕ) → serves_all s 0 us ≡ true → Served s us
 true_served s us e k h = let z : 0 + k ≡ k = omega arith in subst (λ n. s n ≡ true) z (serves_at s 0 us e k h)
 
--- a turn of the test of the seats
-pub serves_hit : (s : ℕ → Bool) (us : List ℕ) (i : ℕ) → i < length us → 0 < get_or us i 0 → s i ≡ false → serves_all s i (drop i us) ≡ false
-serves_hit s us i lt used unserved =
-    at_drop_more (serves_all s i) us i 0 lt
-    ∙ (ap (λ (b : Bool). (b || s i) && serves_all s (suc i) (drop (i + 1) us)) (ne_eqb (get_or us i 0) 0 (λ z. omega arith))
-    ∙ ap (λ (b : Bool). b && serves_all s (suc i) (drop (i + 1) us)) unserved)
-
-pub serves_skip : (s : ℕ → Bool) (us : List ℕ) (i : ℕ) → i < length us → (0 < get_or us i 0 → s i ≡ true) → serves_all s i (drop i us) ≡ serves_all s (i + 1) (drop (i + 1) us)
-serves_skip s us i lt f =
-    let here : (eqb (get_or us i 0) 0 || s i) ≡ true =
-    ⊎_elim (λ x. or_left (eqb (get_or us i 0) 0) (s i) (eq-eqb _ 0 x)) (λ x. or_right (eqb (get_or us i 0) 0) (s i) (f (omega arith))) (cases_eq (get_or us i 0) 0) in
-    let next : suc i ≡ i + 1 = omega arith in
-    at_drop_more (serves_all s i) us i 0 lt
-    ∙ (ap (λ (b : Bool). b && serves_all s (suc i) (drop (i + 1) us)) here
-    ∙ ap (λ n. serves_all s n (drop (i + 1) us)) next)
-
-pub serves_end : (s : ℕ → Bool) (us : List ℕ) (i : ℕ) → length us ≤ i → serves_all s i (drop i us) ≡ true
-serves_end s us i h = at_drop_all (serves_all s i) us i h
+-- the test over the seats with their numbers
+pub serves_seats : (s : ℕ → Bool) (i : ℕ) (us : List ℕ) → list_all (λ (p : ℕ × ℕ). eqb p.1 0 || s p.0) (enumerate_from i us) ≡ serves_all s i us
+serves_seats s i [] = refl
+serves_seats s i (u ∷ us) =
+    let next : i + 1 ≡ suc i = omega arith in
+    ap (λ b. (eqb u 0 || s i) && b) (ap (λ n. list_all (λ (p : ℕ × ℕ). eqb p.1 0 || s p.0) (enumerate_from n us)) next ∙ serves_seats s (suc i) us)
 
 -- the offer at a place, as the list sees it
 module _ {T : Type 0} (m : Meaning T) (q : EnquiryData) where

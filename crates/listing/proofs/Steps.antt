@@ -1,7 +1,6 @@
 -- The steps of a list, over plain values. Assumes nothing.
-use Rattle.std.proofs.Common.{◌≡◌, ℕ, ◌+◌, ◌-◌, ◌<◌, ◌≤◌, Bool, true, false, ◌&&◌, List, ◌++◌, length, get_or, take, replicate, Some, Ok, Err, Decides, Result, sym, ap, ◌∙◌, subst, arith}
+use Rattle.std.proofs.Common.{◌≡◌, ℕ, ◌-◌, ◌≤◌, Bool, true, ◌&&◌, List, ◌++◌, length, get_or, take, replicate, Option, is_some, IfSome, Some, None, Decides, sym, ap, ◌∙◌, subst, arith}
 use Rattle.std.proofs.lemmas.List.{length-take-le, take-take}
-use Rattle.std.proofs.lemmas.Bool.{and_from, and_left, and_right}
 use Rattle.tariff.specs.Totals.{Meaning, offer_total}
 use Rattle.usage.specs.UsesLists.{UsesList}
 use Rattle.usage.proofs.UsesLaws.{lower_uses}
@@ -9,13 +8,10 @@ use Rattle.heads.specs.Rules.{HeadData}
 use Rattle.catalogue.specs.Books.{Book, published, place_at}
 use Rattle.ordered.specs.Ascending.{ascending}
 use Rattle.stages.specs.declared.line.Line.{Line}
-use Rattle.stages.specs.declared.gathering.Gathering.{Gathering}
-use Rattle.stages.specs.declared.refusing.Refusal.{Refusal}
 use Rattle.stages.specs.Lines.{blank, earlier}
 use Rattle.stages.specs.Cutting.{keeps, cut_to}
-use Rattle.stages.specs.Stages.{gathering, put_among, PutsLine}
 use Rattle.ranking.specs.declared.queued.Queued.{Queued}
-use Rattle.ranking.specs.Offers.{Offer, offer_at, Fitting, FloorsHold}
+use Rattle.ranking.specs.Offers.{Offer, offer_at, FloorsHold}
 use Rattle.ranking.specs.Totals.{totals}
 use Rattle.ranking.specs.Queues.{queued_of, LinedUp}
 use Rattle.ranking.specs.Costing.{Ends, EndsBefore}
@@ -25,11 +21,8 @@ use Rattle.ranking.proofs.Gathers.{gathered_order, ends_from, from_ends}
 use Rattle.listing.specs.Enquiries.{EnquiryData}
 use Rattle.listing.specs.Answers.{Written}
 use Rattle.listing.specs.Tests.{asked_for, serves_all, offers}
+use Rattle.listing.specs.Requests.{FloorIfFitting}
 use Rattle.listing.proofs.Fits.{offer_there, fit_at, fits_total, fits_floor}
-
--- `&s[0..k]` is `take (k - 0)`
-pub front : (k : ℕ) → k - 0 ≡ k
-front k = omega arith
 
 module _ {T : Type 0} (m : Meaning T) (q : EnquiryData) (b : Book T) where
   -- whether what is published at a place fits
@@ -37,27 +30,17 @@ module _ {T : Type 0} (m : Meaning T) (q : EnquiryData) (b : Book T) where
     there : (offer_at (offers m b q) p).fits ≡ (asked_for q h && serves_all (m.served t) 0 q.estimate)
     there = ap (λ (o : Offer). o.fits) (offer_there m q b p (published h t) at)
 
-    pub offer_fits : true ≡ asked_for q h → true ≡ serves_all (m.served t) 0 us → (offer_at (offers m b q) p).fits ≡ true
-    offer_fits a s = there ∙ and_from _ _ (sym a) (ap (serves_all (m.served t) 0) (sym same) ∙ sym s)
+    fits_is : (offer_at (offers m b q) p).fits ≡ (asked_for q h && serves_all (m.served t) 0 us)
+    fits_is = there ∙ ap (λ vs. asked_for q h && serves_all (m.served t) 0 vs) (sym same)
 
-    pub offer_unserved : false ≡ serves_all (m.served t) 0 us → (offer_at (offers m b q) p).fits ≡ false
-    offer_unserved s = there ∙ and_right _ _ (ap (serves_all (m.served t) 0) (sym same) ∙ sym s)
+    -- its floor where it fits
+    pub floor_if : (r : Option ℕ) → is_some r ≡ (asked_for q h && serves_all (m.served t) 0 us) → IfSome r (λ f. f ≡ m.floor t) → FloorIfFitting (offers m b q) p r
+    floor_if None e is = fits_is ∙ sym e
+    floor_if (Some f) e is = (fits_is ∙ sym e, is ∙ sym (ap (λ (o : Offer). o.floor) (offer_there m q b p (published h t) at)))
 
-    pub offer_unasked : false ≡ asked_for q h → (offer_at (offers m b q) p).fits ≡ false
-    offer_unasked a = there ∙ and_left _ _ (sym a)
-
-    pub offer_floor : m.floor t ≡ (offer_at (offers m b q) p).floor
-    offer_floor = sym (ap (λ (o : Offer). o.floor) (offer_there m q b p (published h t) at))
-
-  -- the total read at a place that fits
-  pub read_total : (p : ℕ) (us : List ℕ) (cost : ℕ) → us ≡ q.estimate → Fitting (offers m b q) p
-      → ((h : HeadData) (t : T) → place_at b p ≡ Some (published h t) → cost ≡ offer_total (m.drawn t) (m.charged t) us) → cost ≡ (offer_at (offers m b q) p).total
-  read_total p us cost same fit read =
-      let w = fit_at m q b p fit in
-      let o = w.0 in
-      read o.head o.tariff (ap (place_at b) (sym w.1) ∙ w.2.is_published)
-      ∙ (ap (λ vs. offer_total (m.drawn o.tariff) (m.charged o.tariff) vs) same
-      ∙ (sym (fits_total m q b o w.2) ∙ ap (λ n. (offer_at (offers m b q) n).total) w.1))
+    -- its total
+    pub total_is : offer_total (m.drawn t) (m.charged t) us ≡ (offer_at (offers m b q) p).total
+    total_is = ap (λ vs. offer_total (m.drawn t) (m.charged t) vs) same ∙ sym (ap (λ (o : Offer). o.total) (offer_there m q b p (published h t) at))
 
   -- no fitting offer's total is below its floor: the law of the tariffs, where the early end needs it
   pub floors_hold : ((t : T) (us : List ℕ) → UsesList us → length (m.drawn t us) ≡ length us) → ((t : T) (us : List ℕ) → UsesList us → (k : ℕ) → get_or (m.drawn t us) k 0 ≤ get_or us k 0)
@@ -70,7 +53,7 @@ module _ {T : Type 0} (m : Meaning T) (q : EnquiryData) (b : Book T) where
       let c = fits_total m q b w.0 w.2 in
       subst (λ n. (offer_at (offers m b q) n).floor ≤ (offer_at (offers m b q) n).total) w.1 (omega arith)
 
--- whether taking ends before a place of the queue
+-- whether taking ends before a place of the queue, by the lines gathered so far
 pub ends_here : (os : List Offer) (xs : List Queued) → LinedUp os xs → (w k : ℕ) (mem : List Line) (r : Bool) → take k mem ≡ gathered os (take k xs)
     → (ascending earlier (take k mem) ≡ true → Decides r (Ends w (totals (take k mem)) (get_or xs k (queued_of 0 0)).floor)) → Decides r (EndsBefore w os xs k)
 ends_here os xs lined w k mem r e means =
@@ -79,12 +62,6 @@ ends_here os xs lined w k mem r e means =
       (λ t. ends_from os w (take k xs) f (subst (λ ls. Ends w (totals ls) f) e (d.0 t))),
       (λ x. d.1 (subst (λ ls. Ends w (totals ls) f) (sym e) (from_ends os w (take k xs) f x))),
     )
-
--- putting a line where there is room
-pub puts_room : (g : Gathering) (x : Line) (xs ys : List Line) (r : Result Gathering (Refusal × Gathering)) → PutsLine g x xs r ys → g.held < length xs
-    → (r ≡ Ok (gathering g.wanted (g.held + 1))) × (ys ≡ put_among g.held x xs)
-puts_room g x xs ys (Ok h) p room = (ap Ok p.1, p.2)
-puts_room g x xs ys (Err e) p room = absurd (omega (arith, p.0))
 
 -- the memory after the cut
 pub written_by : (xs mem ys ls : List Line) (held w shown : ℕ) → length mem ≡ length xs → held ≤ length mem → take held mem ≡ ls → shown ≡ keeps w ls → shown ≤ length ls

@@ -5,4 +5,6 @@ pub mod Shown
 pub mod Table
 pub mod Answers
 pub mod Tests
+pub mod Asked
+pub mod Requests
 pub mod Theorems

@@ -1,6 +1,6 @@
 //! What a buyer asks for.
 
-/// What a buyer asks for, tested by no rule yet.
+/// What a buyer asks for, tested by no rule yet: codes are numbers here, and kinds once they are in range.
 #[derive(Drop)]
 pub struct Enquiry {
     /// The day that an offer must be on.

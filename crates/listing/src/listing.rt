@@ -7,8 +7,8 @@ ghost use Rattle.listing.specs.Answers.{ListAnswered};
 ghost use Rattle.listing.specs.Theorems.{ListFixed, ListBounded, LinesCosted};
 
 use crate::enquiry::Enquiry;
-use crate::queueing::{gather, line_up};
 use crate::refusing::Refusal;
+use crate::request::Request;
 use catalogue::Catalogue;
 use catalogue::memory::MOST_PLACES;
 use ranking::Queued;
@@ -29,24 +29,23 @@ pub fn list<T: Tariff>(
     ensures bounded { ListBounded (length (held catalogue.now)) result }
     ensures costed { LinesCosted (meaning T.served T.drawn T.charged T.floor) (held catalogue.now) (enquiry_data enquiry.now) }
 {
-    let Ok(begun) = Gathering::begin(enquiry.length) else {
-        return Err(Refusal::ListLength);
-    };
-    if !enquiry.is_sound() {
-        return Err(Refusal::BadEnquiry);
-    }
+    let begun = Gathering::begin(enquiry.length).map_err(|_| Refusal::ListLength)?;
+    let asked = enquiry.asked()?;
     if memory.len() < catalogue.places() {
         return Err(Refusal::ShortMemory);
     }
-    let Ok(uses) = Uses::new(&enquiry.estimate) else {
-        return Err(Refusal::BadUses);
+    let uses = Uses::new(&enquiry.estimate).map_err(|_| Refusal::BadUses)?;
+    let request = Request {
+        catalogue,
+        enquiry,
+        asked,
+        uses,
     };
-    let mut queue = [Queued { place: 0, floor: 0 }; MOST_PLACES];
-    let waiting = line_up(catalogue, enquiry, &uses, &mut queue);
-    let stage = gather(catalogue, enquiry, &uses, &queue[0..waiting], begun, memory);
+    // A plain table: a list takes no memory beyond the lines that are lent.
+    let mut queue = [Queued { floor: 0, place: 0 }; MOST_PLACES];
+    let waiting = request.line_up(&mut queue);
+    let stage = request.gather(&queue[..waiting], begun, memory);
     let costed = stage.held();
-    match stage.cut(memory) {
-        Ok(cut) => Ok((cut.shown(), costed)),
-        Err(_) => Err(Refusal::ShortMemory),
-    }
+    let cut = stage.cut(memory).unwrap();
+    Ok((cut.shown(), costed))
 }

@@ -5,4 +5,3 @@ pub mod Lining
 pub mod Gathers
 pub mod Meets
 pub mod Fixes
-pub mod Turns

@@ -1,5 +1,5 @@
--- Lines and queued offers stand in strict orders. Assumes nothing.
-use Rattle.std.proofs.Common.{◌≡◌, ◌≤◌, true, false, arith}
+-- Lines and queued offers stand in strict orders: by a number, then by place. Assumes nothing.
+use Rattle.std.proofs.Common.{◌≡◌, ℕ, ◌≤◌, Bool, true, false, ◌||◌, ◌&&◌, eqb, ltb, arith}
 use Rattle.std.proofs.lemmas.Bool.Decides.{nat_tests}
 use Rattle.ordered.proofs.Sorted.{Strict}
 use Rattle.stages.specs.declared.line.Line.{Line}
@@ -7,32 +7,31 @@ use Rattle.stages.specs.Lines.{earlier}
 use Rattle.ranking.specs.declared.queued.Queued.{Queued}
 use Rattle.ranking.specs.Queues.{sooner}
 
-earlier_trans : (x y z : Line) → earlier x y ≡ true → earlier y z ≡ true → earlier x z ≡ true
-earlier_trans x y z h g = grind (arith, nat_tests)
+module _ {X : Type 0} (number place : X → ℕ) where
+  -- a smaller number, or an equal number and a smaller place
+  abbrev before : X → X → Bool
+  before x y = ltb (number x) (number y) || (eqb (number x) (number y) && ltb (place x) (place y))
 
-earlier_self : (x : Line) → earlier x x ≡ true → ⊥
-earlier_self x h = grind (arith, nat_tests)
+  strict : ((x y : X) → number x ≡ number y → place x ≡ place y → x ≡ y) → Strict before
+  strict same = record { trans = trans; self = λ x h. grind (arith, nat_tests); other = λ x y h ne. behind x y h (λ n p. ne (same x y n p)) }
+    where
+      trans : (x y z : X) → before x y ≡ true → before y z ≡ true → before x z ≡ true
+      trans x y z h g = grind (arith, nat_tests)
 
-earlier_other : (x y : Line) → earlier x y ≡ false → (x ≡ y → ⊥) → earlier y x ≡ true
-earlier_other x y h ne = grind (arith, nat_tests)
+      behind : (x y : X) → before x y ≡ false → (number x ≡ number y → place x ≡ place y → ⊥) → before y x ≡ true
+      behind x y h ne = grind (arith, nat_tests)
+
+  not_over : (x y : X) → before x y ≡ true → number x ≤ number y
+  not_over x y h = grind (arith, nat_tests)
 
 pub line_order : Strict earlier
-line_order = record { trans = earlier_trans; self = earlier_self; other = earlier_other }
+line_order = strict (λ (x : Line). x.total) (λ x. x.place) (λ x y t p i. record { total = t i; place = p i })
 
 pub earlier_total : (x y : Line) → earlier x y ≡ true → x.total ≤ y.total
-earlier_total x y h = grind (arith, nat_tests)
-
-sooner_trans : (x y z : Queued) → sooner x y ≡ true → sooner y z ≡ true → sooner x z ≡ true
-sooner_trans x y z h g = grind (arith, nat_tests)
-
-sooner_self : (x : Queued) → sooner x x ≡ true → ⊥
-sooner_self x h = grind (arith, nat_tests)
-
-sooner_other : (x y : Queued) → sooner x y ≡ false → (x ≡ y → ⊥) → sooner y x ≡ true
-sooner_other x y h ne = grind (arith, nat_tests)
+earlier_total = not_over (λ x. x.total) (λ x. x.place)
 
 pub queue_order : Strict sooner
-queue_order = record { trans = sooner_trans; self = sooner_self; other = sooner_other }
+queue_order = strict (λ (x : Queued). x.floor) (λ x. x.place) (λ x y f p i. record { floor = f i; place = p i })
 
 pub sooner_floor : (x y : Queued) → sooner x y ≡ true → x.floor ≤ y.floor
-sooner_floor x y h = grind (arith, nat_tests)
+sooner_floor = not_over (λ x. x.floor) (λ x. x.place)

@@ -3,17 +3,17 @@ ghost use Rattle.ranking.specs.Queues.{sooner};
 
 use ordered::Ranked;
 
-/// An offer that waits to be costed: its place of the catalogue, and its floor, in ten-millionths.
-#[derive(Clone, Copy, Debug, PartialEq)]
+/// An offer that waits to be costed: its floor, in ten-millionths, and its place of the catalogue.
+#[derive(Clone, Copy, Debug, PartialEq, Eq, PartialOrd, Ord)]
 pub struct Queued {
-    pub place: usize,
     pub floor: u64,
+    pub place: usize,
 }
 
 impl Ranked for Queued {
     ghost before = { sooner };
 
     fn is_before(&self, other: &Queued) -> bool {
-        self.floor < other.floor || (self.floor == other.floor && self.place < other.place)
+        self < other
     }
 }

@@ -7,10 +7,9 @@ use std::test::Fail;
 
 // The number that beginning a list of this length is refused with, or 0.
 fn beginning(length: usize) -> u16 {
-    match Gathering::begin(length) {
-        Ok(_) => 0,
-        Err(refusal) => refusal.number(),
-    }
+    Gathering::begin(length)
+        .err()
+        .map_or(0, |refusal| refusal.number())
 }
 
 #[test]
@@ -29,10 +28,7 @@ fn begin(rt: HostRuntime) -> Result<(), Fail> {
 fn gathered(length: usize, lines: &[Line], memory: &mut [Line]) -> Result<Gathering, Fail> {
     let mut stage = Gathering::begin(length)?;
     for line in lines {
-        stage = match stage.put(memory, *line) {
-            Ok(more) => more,
-            Err(_) => return Err(Fail::new("no room")),
-        };
+        stage = stage.put(memory, *line).map_err(|_| Fail::new("no room"))?;
     }
     Ok(stage)
 }
@@ -40,10 +36,7 @@ fn gathered(length: usize, lines: &[Line], memory: &mut [Line]) -> Result<Gather
 // Gathers totals 7, 5 and 5, and cuts them.
 fn cut(length: usize, memory: &mut [Line]) -> Result<Cut, Fail> {
     let stage = gathered(length, &[line(0, 7), line(1, 5), line(2, 5)], memory)?;
-    match stage.cut(memory) {
-        Ok(cut) => Ok(cut),
-        Err(_) => Err(Fail::new("no room")),
-    }
+    stage.cut(memory).map_err(|_| Fail::new("no room"))
 }
 
 #[test]
@@ -64,15 +57,13 @@ fn put_by_total_then_place(rt: HostRuntime) -> Result<(), Fail> {
 fn put_into_short_memory(rt: HostRuntime) -> Result<(), Fail> {
     let mut memory = [stale(); 1];
     let stage = gathered(3, &[line(4, 6)], &mut memory)?;
-    match stage.put(&mut memory, line(5, 1)) {
-        Ok(_) => Err(Fail::new("put into no room")),
-        Err((refusal, same)) => {
-            assert_eq!(rt; refusal.number(), 24);
-            assert_eq!(rt; same.held(), 1);
-            assert_eq!(rt; same.length(), 3);
-            check_lines(&memory, &[line(4, 6)])
-        }
-    }
+    let Err((refusal, same)) = stage.put(&mut memory, line(5, 1)) else {
+        return Err(Fail::new("put into no room"));
+    };
+    assert_eq!(rt; refusal.number(), 24);
+    assert_eq!(rt; same.held(), 1);
+    assert_eq!(rt; same.length(), 3);
+    check_lines(&memory, &[line(4, 6)])
 }
 
 #[test]
@@ -80,14 +71,12 @@ fn cut_of_short_memory(rt: HostRuntime) -> Result<(), Fail> {
     let mut memory = [stale(); 2];
     let mut short = [stale(); 1];
     let stage = gathered(3, &[line(4, 6), line(5, 1)], &mut memory)?;
-    match stage.cut(&mut short) {
-        Ok(_) => Err(Fail::new("cut in no room")),
-        Err((refusal, same)) => {
-            assert_eq!(rt; refusal.number(), 24);
-            assert_eq!(rt; same.held(), 2);
-            check_lines(&short, &[stale()])
-        }
-    }
+    let Err((refusal, same)) = stage.cut(&mut short) else {
+        return Err(Fail::new("cut in no room"));
+    };
+    assert_eq!(rt; refusal.number(), 24);
+    assert_eq!(rt; same.held(), 2);
+    check_lines(&short, &[stale()])
 }
 
 #[test]
@@ -103,10 +92,9 @@ fn cuts(rt: HostRuntime) -> Result<(), Fail> {
 
 // The number that reading a line is refused with, or 0.
 fn reading(cut: &Cut, memory: &[Line], at: usize) -> u16 {
-    match cut.line(memory, at) {
-        Ok(_) => 0,
-        Err(refusal) => refusal.number(),
-    }
+    cut.line(memory, at)
+        .err()
+        .map_or(0, |refusal| refusal.number())
 }
 
 #[test]

@@ -6,8 +6,8 @@ use std::test::Fail;
 /// A line of a total in hundredths.
 pub fn line(place: usize, hundredths: u32) -> Line {
     Line {
+        total: 100_000 * u64::from(hundredths),
         place,
-        total: 100_000 * hundredths as u64,
     }
 }
 
@@ -19,12 +19,9 @@ pub fn stale() -> Line {
 /// Whether the memory holds these lines.
 pub fn check_lines(memory: &[Line], wanted: &[Line]) -> Result<(), Fail> {
     check_count(memory.len(), wanted.len(), "lines")?;
-    for i in 0..memory.len() {
-        if i < wanted.len() {
-            let (line, other) = (memory[i], wanted[i]);
-            if line != other {
-                return Err(Fail::new(format_args!("{line:?} and not {other:?} at {i}")));
-            }
+    for (at, (line, other)) in memory.iter().zip(wanted).enumerate() {
+        if line != other {
+            return Err(Fail::new(format_args!("{line:?} and not {other:?} at {at}")));
         }
     }
     Ok(())

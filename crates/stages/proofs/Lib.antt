@@ -1,2 +1,2 @@
-pub mod Turns
+pub mod Groups
 pub mod Falling

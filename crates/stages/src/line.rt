@@ -3,17 +3,17 @@ ghost use Rattle.stages.specs.Lines.{earlier};
 
 use ordered::Ranked;
 
-/// A line of a listing: a place of the catalogue, and the total of the offer there, in ten-millionths.
-#[derive(Clone, Copy, Debug, PartialEq)]
+/// A line of a listing: the total of an offer, in ten-millionths, and its place of the catalogue.
+#[derive(Clone, Copy, Debug, PartialEq, Eq, PartialOrd, Ord)]
 pub struct Line {
-    pub place: usize,
     pub total: u64,
+    pub place: usize,
 }
 
 impl Ranked for Line {
     ghost before = { earlier };
 
     fn is_before(&self, other: &Line) -> bool {
-        self.total < other.total || (self.total == other.total && self.place < other.place)
+        self < other
     }
 }

@@ -13,13 +13,8 @@ impl Cut {
     pub fn line(&self, memory: &[Line], at: usize) -> Result<Line, Refusal>
         ensures { Reads self.now memory.now at result }
     {
-        if self.shown > memory.len() {
-            return Err(Refusal::ShortMemory);
-        }
-        if at >= self.shown {
-            return Err(Refusal::NoSuchLine);
-        }
-        Ok(memory[at])
+        let lines = memory.get(..self.shown).ok_or(Refusal::ShortMemory)?;
+        lines.get(at).copied().ok_or(Refusal::NoSuchLine)
     }
 
     /// How many lines are shown.

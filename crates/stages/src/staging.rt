@@ -1,9 +1,11 @@
-//! Gathering lines, and the cut that ends it. The line memory is lent at each call.
+//! Gathering lines, and the cut that ends it.
+//!
+//! A stage is moved from call to call and holds no memory: the line memory is the caller's, and lent at each call.
 ghost use Rattle.std.specs.Prelude.{◌≡◌};
 ghost use Rattle.stages.specs.Stages.{Begins, PutsLine, Cuts};
 
 use crate::cut::Cut;
-use crate::cutting::{clear, leading};
+use crate::cutting::leading;
 use crate::gathering::Gathering;
 use crate::line::Line;
 use crate::refusing::Refusal;
@@ -32,12 +34,13 @@ impl Gathering {
     pub fn put(self, memory: &mut [Line], line: Line) -> Result<Gathering, (Refusal, Gathering)>
         ensures { PutsLine self line memory.old result memory.new }
     {
-        match put(memory, self.held, line) {
-            Ok(()) => Ok(Gathering {
-                wanted: self.wanted,
+        if put(memory, self.held, line).is_ok() {
+            Ok(Gathering {
                 held: self.held + 1,
-            }),
-            Err(_) => Err((Refusal::ShortMemory, self)),
+                ..self
+            })
+        } else {
+            Err((Refusal::ShortMemory, self))
         }
     }
 
@@ -51,8 +54,8 @@ impl Gathering {
         if held > memory.len() {
             return Err((Refusal::ShortMemory, self));
         }
-        let shown = leading(&memory[0..held], self.wanted);
-        clear(memory, shown);
+        let shown = leading(&memory[..held], self.wanted);
+        memory[shown..].fill(Line { total: 0, place: 0 });
         Ok(Cut { shown })
     }
 

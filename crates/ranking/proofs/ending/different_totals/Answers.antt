@@ -1,28 +1,13 @@
-use Rattle.std.proofs.Common.{◌≡◌, sym, ap, ◌∙◌, arith}
-use Rattle.std.proofs.lemmas.List.{nil_from_length}
+use Rattle.std.proofs.Common.{◌≡◌, ◌∙◌, rules}
+use Rattle.std.proofs.lemmas.List.Sorted.{answers_always}
 use Rattle.stages.specs.Cutting.{neighbouring}
+use Rattle.stages.proofs.Groups.{run_counts}
 use Rattle.ranking.proofs.Rising.{neighbouring_different}
-use Rattle.ranking.proofs.Turns.{changes_same, changes_next, changes_all}
 use Rattle.ranking.proofs.ending.different_totals.Goals as goal
-use Rattle.ranking.proofs.ending.different_totals.Goals.{then-total-last, else-total-last}
-
-pub returns-then-lines-eq0 : goal.returns-then-lines-eq0
-returns-then-lines-eq0 c =
-    let lines = c.args.lines.now in
-    let none : 0 ≡ neighbouring lines = sym (ap neighbouring (nil_from_length lines c.if-lines-eq0.true)) in
-    record { is = none; means = λ a. none ∙ neighbouring_different lines a }
-
-pub loop-i-preserved : goal.loop-i-preserved
-loop-i-preserved c =
-    elim c.if-total-last.branch [
-      | then-total-last w ↦
-          simp (w.count-is, w.last-is) (let more = changes_next c.loop-i.last c.args.lines.now c.loop-i.i c.loop-i-test.true w.if-total-last.true in (omega arith, omega arith))
-      | else-total-last w ↦
-          simp (w.count-is, w.last-is) (let same = changes_same c.loop-i.last c.args.lines.now c.loop-i.i c.loop-i-test.true w.if-total-last.false in (omega arith, omega arith))
-    ]
 
 pub returns : goal.returns
 returns c =
-    let lines = c.args.lines.now in
-    let count : c.loop-i.count ≡ neighbouring lines = omega (arith, changes_all c.loop-i.last lines c.loop-i.i c.loop-i-test.false) in
-    record { is = count; means = λ a. count ∙ neighbouring_different lines a }
+    let r = c.count.ensures.runs in
+    let count : c.count.result ≡ neighbouring c.args.lines.now =
+    r.3 ∙ run_counts _ r.0 _ r.1 _ c.chunk_by.ensures.rest (answers_always _ _ _ (λ f a x k h. search rules)) r.2 in
+    record { is = count; means = λ a. count ∙ neighbouring_different c.args.lines.now a }
