@@ -6,5 +6,5 @@ pub mod row;
 pub mod value;
 
 pub use printed::Printed;
-pub use row::Row;
+pub use row::{Row, number_in};
 pub use value::{Layer, Value};

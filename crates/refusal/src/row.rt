@@ -1,5 +1,5 @@
 //! What every refusal tells its caller.
-ghost use Rattle.std.specs.Prelude.{◌≡◌};
+ghost use Rattle.std.specs.Prelude.{◌≡◌, MatchResult};
 ghost use Rattle.refusal.specs.Rows.{RowData, value_at};
 
 use crate::value::Value;
@@ -16,4 +16,14 @@ pub trait Row {
     /// The value at a place among those that go with the number, counted from 0.
     fn value(&self, at: usize) -> Option<Value>
         ensures { result ≡ value_at (row self.now).values at };
+}
+
+/// The number of the refusal in an answer, or 0 where there is none.
+pub fn number_in<T: Drop, R: Row + Drop>(answer: Result<T, R>) -> u16
+    ensures { MatchResult answer (λ _. result ≡ 0) (λ e. result ≡ (R.Row.row e).number) }
+{
+    match answer {
+        Ok(_) => 0,
+        Err(refusal) => refusal.number(),
+    }
 }
