@@ -2,13 +2,8 @@
 use crate::making::{check_told, opened, subscription};
 use catalogue::{Catalogue, Refusal};
 use heads::RawHead;
-use refusal::Row;
+use refusal::{Row, number_in};
 use std::test::Fail;
-
-// The number of a refusal, or 0 where there was none.
-pub fn number(answer: Result<(), Refusal>) -> u16 {
-    answer.err().map_or(0, |refusal| refusal.number())
-}
 
 // The number that an enter of tariff 5 is refused with, or 0.
 pub fn entering(catalogue: &mut Catalogue<u32>, place: usize, head: &RawHead) -> u16 {
@@ -40,7 +35,7 @@ fn enter(rt: HostRuntime) -> Result<(), Fail> {
         entering(&mut catalogue, 0, &good),
         // in work, it is written again
         entering(&mut catalogue, 0, &good),
-        number(catalogue.publish(0)),
+        number_in(catalogue.publish(0)),
         // a bad head comes before a published place
         entering(&mut catalogue, 0, &bad),
         entering(&mut catalogue, 0, &good),
@@ -70,13 +65,13 @@ fn publish(rt: HostRuntime) -> Result<(), Fail> {
     let mut catalogue = opened(heap, 2, 0u32)?;
     let head = subscription(heap, 65, 10, 20)?;
     let told = [
-        number(catalogue.publish(2)),
-        number(catalogue.publish(1)),
+        number_in(catalogue.publish(2)),
+        number_in(catalogue.publish(1)),
         entering(&mut catalogue, 1, &head),
         // in work, it is no offer yet
         last_at(&catalogue, 1),
-        number(catalogue.publish(1)),
-        number(catalogue.publish(1)),
+        number_in(catalogue.publish(1)),
+        number_in(catalogue.publish(1)),
         last_at(&catalogue, 0),
         last_at(&catalogue, 1),
         last_at(&catalogue, 2),
@@ -92,15 +87,15 @@ fn amend(rt: HostRuntime) -> Result<(), Fail> {
     let mut catalogue = opened(heap, 1, 0u32)?;
     let head = subscription(heap, 65, 10, 20)?;
     let told = [
-        number(catalogue.amend(1, 5)),
-        number(catalogue.amend(0, 5)),
+        number_in(catalogue.amend(1, 5)),
+        number_in(catalogue.amend(0, 5)),
         entering(&mut catalogue, 0, &head),
-        number(catalogue.amend(0, 9)),
-        number(catalogue.amend(0, 10)),
-        number(catalogue.publish(0)),
+        number_in(catalogue.amend(0, 9)),
+        number_in(catalogue.amend(0, 10)),
+        number_in(catalogue.publish(0)),
         last_at(&catalogue, 0),
-        number(catalogue.amend(0, 9)),
-        number(catalogue.amend(0, 65_535)),
+        number_in(catalogue.amend(0, 9)),
+        number_in(catalogue.amend(0, 65_535)),
         last_at(&catalogue, 0),
     ];
     check_told(&told, &[10, 16, 0, 14, 0, 0, 10, 14, 0, 65_535])
@@ -112,14 +107,14 @@ fn delete(rt: HostRuntime) -> Result<(), Fail> {
     let mut catalogue = opened(heap, 1, 0u32)?;
     let head = subscription(heap, 65, 10, 20)?;
     let told = [
-        number(catalogue.delete(1)),
-        number(catalogue.delete(0)),
+        number_in(catalogue.delete(1)),
+        number_in(catalogue.delete(0)),
         entering(&mut catalogue, 0, &head),
-        number(catalogue.delete(0)),
-        number(catalogue.publish(0)),
+        number_in(catalogue.delete(0)),
+        number_in(catalogue.publish(0)),
         entering(&mut catalogue, 0, &head),
-        number(catalogue.publish(0)),
-        number(catalogue.delete(0)),
+        number_in(catalogue.publish(0)),
+        number_in(catalogue.delete(0)),
         last_at(&catalogue, 0),
     ];
     check_told(&told, &[10, 16, 0, 0, 16, 0, 0, 18, 20])
@@ -133,7 +128,7 @@ fn the_last_of_256_places(rt: HostRuntime) -> Result<(), Fail> {
     let told = [
         entering(&mut catalogue, 256, &head),
         entering(&mut catalogue, 255, &head),
-        number(catalogue.publish(255)),
+        number_in(catalogue.publish(255)),
         last_at(&catalogue, 255),
     ];
     check_told(&told, &[10, 0, 0, 20])?;

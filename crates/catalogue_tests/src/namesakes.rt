@@ -1,8 +1,8 @@
 //! Published namesakes never share a day.
-use crate::calls::{entering, last_at, number};
+use crate::calls::{entering, last_at};
 use crate::making::{check_told, opened, subscription};
 use catalogue::{Catalogue, Refusal};
-use refusal::{Row, Value};
+use refusal::{Row, Value, number_in};
 use std::alloc::Global;
 use std::test::Fail;
 
@@ -26,7 +26,7 @@ fn shop(heap: Global) -> Result<Catalogue<u32>, Fail> {
     let head = subscription(heap, 65, 10, 20)?;
     let numbers = [
         entering(&mut catalogue, 1, &head),
-        number(catalogue.publish(1)),
+        number_in(catalogue.publish(1)),
     ];
     check_told(&numbers, &[0, 0])?;
     Ok(catalogue)
@@ -41,7 +41,7 @@ fn a_shared_day(rt: HostRuntime) -> Result<(), Fail> {
     let numbers = [
         entering(&mut catalogue, 2, &tied),
         told(catalogue.publish(2)),
-        number(catalogue.publish(2)),
+        number_in(catalogue.publish(2)),
         entering(&mut catalogue, 2, &later),
         told(catalogue.publish(2)),
     ];

@@ -1,30 +1,27 @@
 //! One offer costed for one estimate: what each layer of its tariff does.
-use crate::money::print_total;
+use crate::money::Money;
 use examples::{worked_estimate, worked_offer};
 use kinds::PhoneOffer;
 use prices::PriceTable;
-use refusal::Row;
+use refusal::Printed;
 use std::io;
 use tariff::{Tariff, total};
 use usage::{Refusal, Uses};
 
 /// Prints the bill of the worked example.
 pub fn print_bill(rt: &impl Print) -> io::Result<()> {
-    let offer = match worked_offer() {
-        Ok(offer) => offer,
-        Err(refusal) => return refused(rt, refusal),
-    };
-    let estimate = match worked_estimate() {
-        Ok(estimate) => estimate,
-        Err(refusal) => return refused(rt, refusal),
-    };
-    println!(rt; "one offer's bill")?;
-    report(rt, &offer, estimate)
+    match worked() {
+        Ok((offer, estimate)) => {
+            println!(rt; "one offer's bill")?;
+            report(rt, &offer, estimate)
+        }
+        Err(refusal) => println!(rt; "refused {}", Printed(&refusal)),
+    }
 }
 
-fn refused(rt: &impl Print, refusal: Refusal) -> io::Result<()> {
-    let number = refusal.number();
-    println!(rt; "refused {number}")
+// The worked offer, and its estimate.
+fn worked() -> Result<(PhoneOffer, Uses), Refusal> {
+    Ok((worked_offer()?, worked_estimate()?))
 }
 
 // The offer's groups, overrun, charges, floor and total for an estimate.
@@ -40,8 +37,8 @@ fn report(rt: &impl Print, offer: &PhoneOffer, estimate: Uses) -> io::Result<()>
     println!(rt; "overrun:")?;
     print_uses(rt, &overrun)?;
     print_charges(rt, offer, &overrun)?;
-    print_total(rt, "floor", offer.floor())?;
-    print_total(rt, "total", total(offer, estimate))
+    println!(rt; "floor: {}", Money(offer.floor()))?;
+    println!(rt; "total: {}", Money(total(offer, estimate)))
 }
 
 // What each layer charges: the layers below an option are charged for the list with its priced seats at 0.
@@ -51,25 +48,22 @@ fn print_charges(rt: &impl Print, offer: &PhoneOffer, overrun: &Uses) -> io::Res
     let plan = first.below();
     let for_first = overrun.without(&second.table().priced());
     let for_plan = for_first.without(&first.table().priced());
-    print_total(rt, "plan charges", plan.charge(&for_plan))?;
-    print_total(rt, "with first option", first.charge(&for_first))?;
-    print_total(rt, "with second option", second.charge(overrun))?;
-    print_total(rt, "with promotion", offer.charge(overrun))
+    println!(rt; "plan charges: {}", Money(plan.charge(&for_plan)))?;
+    println!(rt; "with first option: {}", Money(first.charge(&for_first)))?;
+    println!(rt; "with second option: {}", Money(second.charge(overrun)))?;
+    println!(rt; "with promotion: {}", Money(offer.charge(overrun)))
 }
 
 // Draws the groups of one layer by ascending order, and prints what each drew.
 fn draw_layer(rt: &impl Print, name: &str, table: &PriceTable, uses: Uses) -> io::Result<Uses> {
-    let groups = table.groups();
     let mut left = uses;
-    for at in 0..groups.count() {
-        if let Some(group) = groups.group(at) {
-            let after = group.draw(left);
-            let order = group.order();
-            let units = group.units();
-            println!(rt; "{name}, group of order {order}, {units} units:")?;
-            print_draws(rt, &left, &after)?;
-            left = after;
-        }
+    for group in table.groups().entries() {
+        let after = group.draw(left);
+        let order = group.order();
+        let units = group.units();
+        println!(rt; "{name}, group of order {order}, {units} units:")?;
+        print_draws(rt, &left, &after)?;
+        left = after;
     }
     Ok(left)
 }
@@ -77,8 +71,8 @@ fn draw_layer(rt: &impl Print, name: &str, table: &PriceTable, uses: Uses) -> io
 fn print_draws(rt: &impl Print, before: &Uses, after: &Uses) -> io::Result<()> {
     let from = before.parts();
     let to = after.parts();
-    for seat in 0..16 {
-        let drew = from[seat].saturating_sub(to[seat]);
+    for (seat, (held, kept)) in from.iter().zip(&to).enumerate() {
+        let drew = held.saturating_sub(*kept);
         if drew > 0 {
             println!(rt; "  seat {seat} drew {drew} parts")?;
         }
@@ -87,10 +81,8 @@ fn print_draws(rt: &impl Print, before: &Uses, after: &Uses) -> io::Result<()> {
 }
 
 fn print_uses(rt: &impl Print, uses: &Uses) -> io::Result<()> {
-    let all = uses.parts();
-    for seat in 0..16 {
-        let parts = all[seat];
-        if parts > 0 {
+    for (seat, parts) in uses.parts().iter().enumerate() {
+        if *parts > 0 {
             println!(rt; "  seat {seat}: {parts} parts")?;
         }
     }

@@ -9,7 +9,7 @@ mod shop;
 
 use bill::print_bill;
 use report::print_run;
-use shop::{data_given, data_labels, phone_given, phone_labels};
+use shop::{data_given, phone_given};
 
 fn main(rt: HostRuntime) -> anyhow::Result<()> {
     run(&rt)
@@ -18,7 +18,9 @@ fn main(rt: HostRuntime) -> anyhow::Result<()> {
 fn run(rt: &HostRuntime) -> anyhow::Result<()> {
     print_bill(rt)?;
     rt.println("")?;
-    print_run(rt, phone_given(rt.alloc())?, &phone_labels())?;
+    let (given, labels) = phone_given(rt.alloc())?;
+    print_run(rt, given, labels.as_slice())?;
     rt.println("")?;
-    print_run(rt, data_given(rt.alloc())?, &data_labels())
+    let (given, labels) = data_given(rt.alloc())?;
+    print_run(rt, given, labels.as_slice())
 }

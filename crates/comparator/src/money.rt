@@ -1,9 +1,14 @@
 //! Totals as a person reads them.
-use std::io;
+use std::fmt;
 
-/// Prints a total in the currency, with its seven decimals, on a line of its own.
-pub fn print_total(rt: &impl Print, name: &str, total: u64) -> io::Result<()> {
-    let whole = total / 10_000_000;
-    let rest = total % 10_000_000;
-    println!(rt; "{name}: {whole}.{rest:07}")
+/// A total as it is printed: in the currency, with its seven decimals.
+#[derive(Clone, Copy)]
+pub struct Money(pub u64);
+
+impl fmt::Display for Money {
+    fn fmt<W: fmt::Write>(&self, f: &mut fmt::Formatter<W>) -> fmt::Result {
+        let whole = self.0 / 10_000_000;
+        let rest = self.0 % 10_000_000;
+        write!(f, "{whole}.{rest:07}")
+    }
 }

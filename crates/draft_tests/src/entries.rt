@@ -11,10 +11,8 @@ fn fork() -> Result<Draft, Fail> {
 
 // The number of a refusal and the node that it names, 255 for none; 0 where the entry is granted.
 fn told(answer: Result<Draft, Refusal>) -> (u16, u64) {
-    match answer {
-        Ok(_) => (0, 255),
-        Err(refusal) => (refusal.number(), node_of(refusal)),
-    }
+    let refusal = answer.err();
+    refusal.map_or((0, 255), |refusal| (refusal.number(), node_of(refusal)))
 }
 
 fn node_of(refusal: Refusal) -> u64 {

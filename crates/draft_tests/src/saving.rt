@@ -1,8 +1,7 @@
 //! Saving drafts: prices and groups seat by seat, and end services without a price.
 use draft::{Draft, Refusal};
-use kinds::Plan;
 use prices::PriceTable;
-use refusal::{Row, Value};
+use refusal::{Row, Value, number_in};
 use std::test::Fail;
 use tariff::Tariff;
 use tree::ServiceTree;
@@ -14,17 +13,7 @@ fn wide() -> Result<Draft, Fail> {
 
 // The price of a seat, 9 where it has none.
 fn price(table: &PriceTable, seat: usize) -> u32 {
-    match table.price(seat) {
-        Some(price) => price.price(),
-        None => 9,
-    }
-}
-
-fn number(answer: Result<Plan, Refusal>) -> u16 {
-    match answer {
-        Ok(_) => 0,
-        Err(refusal) => refusal.number(),
-    }
+    table.price(seat).map_or(9, |price| price.price())
 }
 
 #[test]
@@ -56,9 +45,7 @@ fn groups_by_seat_and_order(rt: HostRuntime) -> Result<(), Fail> {
     let table = draft.save_addon_table(0)?;
     let groups = table.groups();
     assert_eq!(rt; groups.count(), 2);
-    let Some(first) = groups.group(0) else {
-        return Err(Fail::new("no first group"));
-    };
+    let first = groups.group(0).ok_or_else(|| Fail::new("no first group"))?;
     assert_eq!(rt; first.order(), 2);
     assert_eq!(rt; first.units(), 10);
     assert!(rt; first.members().contains(0));
@@ -72,7 +59,7 @@ fn groups_by_seat_and_order(rt: HostRuntime) -> Result<(), Fail> {
 #[test]
 fn end_services_without_a_price(rt: HostRuntime) -> Result<(), Fail> {
     let draft = wide()?.group(1, 10, &[0, 3])?;
-    assert_eq!(rt; number(draft.save_plan(0)), 120);
+    assert_eq!(rt; number_in(draft.save_plan(0)), 120);
     let Err(refusal) = draft.price(1, 5)?.save_plan(0) else {
         return Err(Fail::new("saved without a price"));
     };
@@ -86,8 +73,8 @@ fn end_services_without_a_price(rt: HostRuntime) -> Result<(), Fail> {
 #[test]
 fn sums_of_saved_drafts(rt: HostRuntime) -> Result<(), Fail> {
     let draft = wide()?.group(1, 10, &[0])?;
-    assert_eq!(rt; number(draft.save_plan(1_000_001)), 32);
-    assert_eq!(rt; number(draft.save_plan(1_000_000)), 120);
+    assert_eq!(rt; number_in(draft.save_plan(1_000_001)), 32);
+    assert_eq!(rt; number_in(draft.save_plan(1_000_000)), 120);
     assert!(rt; draft.save_addon_table(1_000_000).is_ok());
     let Err(refusal) = draft.save_addon_table(1_000_001) else {
         return Err(Fail::new("saved over the range"));

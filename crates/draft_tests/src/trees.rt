@@ -1,22 +1,21 @@
 //! Service trees: the edges of their rule, branches and seats.
 use refusal::Row;
+use std::array;
 use std::test::Fail;
 use tree::{Refusal, ServiceTree};
 
 // Whether a list of parents is refused with 36.
 fn refused(parents: &[u8]) -> bool {
-    match ServiceTree::new(parents) {
-        Ok(_) => false,
-        Err(refusal) => refusal.number() == 36 && refusal.value(0).is_none(),
-    }
+    let refusal = ServiceTree::new(parents).err();
+    refusal.is_some_and(|refusal| refusal.number() == 36 && refusal.value(0).is_none())
 }
 
 // A chain of so many nodes, at most 41: each under the one before.
 fn chain(length: usize) -> ([u8; 41], usize) {
-    let mut parents = [255; 41];
-    for n in 1..41 {
-        parents[n] = (n - 1) as u8;
-    }
+    let parents = array::from_fn(|node: usize| match node {
+        0 => 255,
+        _ => (node - 1) as u8,
+    });
     (parents, length.min(41))
 }
 

@@ -1,7 +1,7 @@
 //! A draft, entry by entry, with what each was answered.
-use crate::refused::print_refusal;
 use draft::{Draft, Refusal};
 use kinds::Plan;
+use refusal::Printed;
 use std::io;
 use tree::ServiceTree;
 
@@ -32,7 +32,7 @@ fn enter(
             Ok(next)
         }
         Err(refusal) => {
-            print_refusal(rt, &refusal)?;
+            println!(rt; "refused {}", Printed(&refusal))?;
             Ok(draft)
         }
     }
@@ -43,6 +43,6 @@ fn save(rt: &impl Print, answer: Result<Plan, Refusal>) -> io::Result<()> {
     print!(rt; "plan worked sum=1000: ")?;
     match answer {
         Ok(_) => rt.println("ok"),
-        Err(refusal) => print_refusal(rt, &refusal),
+        Err(refusal) => println!(rt; "refused {}", Printed(&refusal)),
     }
 }

@@ -2,7 +2,6 @@
 #![tactic(auto)]
 
 mod drafting;
-mod refused;
 mod sheets;
 
 use anyhow::anyhow;

@@ -1,9 +1,9 @@
 //! Plan sheets read from files.
-use crate::refused::print_refusal;
 use anyhow::anyhow;
 use cursor::Part;
 use heads::RawHead;
 use kinds::Plan;
+use refusal::Printed;
 use sheet::{Fault, PlanSheet, read};
 use std::alloc::{AllocError, Global};
 use std::{fs, io};
@@ -36,7 +36,7 @@ fn print_sheet(rt: &impl Print, bytes: &[u8], answer: Result<PlanSheet, Fault>) 
             print_text(rt, bytes, sheet.link)?;
             println!(rt; "\"")
         }
-        Err(fault) => print_refusal(rt, &fault),
+        Err(fault) => println!(rt; "refused {}", Printed(&fault)),
     }
 }
 
@@ -58,26 +58,21 @@ pub fn sheet_in(
     file: &str,
 ) -> anyhow::Result<(RawHead, Plan)> {
     let bytes = fs::read(rt, file)?;
-    match read(bytes.as_slice(), tree) {
-        Ok(sheet) => {
-            let head = raw_head(rt.alloc(), &sheet, bytes.as_slice())?;
-            Ok((head, sheet.plan))
-        }
-        Err(_) => Err(anyhow!("a sheet of the example is refused")),
-    }
+    let sheet = read(bytes.as_slice(), tree).map_err(|_| anyhow!(
+        "a sheet of the example is refused"
+    ))?;
+    let head = raw_head(rt.alloc(), &sheet, bytes.as_slice())?;
+    Ok((head, sheet.plan))
 }
 
 fn raw_head(heap: Global, sheet: &PlanSheet, bytes: &[u8]) -> Result<RawHead, AllocError> {
-    let name = match sheet.name.of(bytes) {
-        Some(text) => Vec::from_slice(heap, text)?,
-        None => Vec::new(heap),
-    };
+    let name = Vec::from_slice(heap, sheet.name.of(bytes).unwrap_or_default())?;
     let head = sheet.head;
     Ok(RawHead {
         supplier: head.supplier,
         name,
-        network: head.network.code(),
-        contract: head.contract.code(),
+        network: head.network.into(),
+        contract: head.contract.into(),
         term: head.term,
         first: head.first,
         last: head.last,

@@ -4,7 +4,7 @@ use catalogue::Catalogue;
 use catalogue_tests::making::{check_told, opened};
 use kinds::Plan;
 use listing::{Enquiry, Refusal, list};
-use refusal::Row;
+use refusal::{Row, number_in};
 use stage_tests::making::{check_lines, stale};
 use stages::Line;
 use std::test::Fail;
@@ -19,9 +19,7 @@ fn number(
 ) -> u16 {
     asked.length = length;
     asked.day = day;
-    list(catalogue, asked, memory)
-        .err()
-        .map_or(0, |refusal| refusal.number())
+    number_in(list(catalogue, asked, memory))
 }
 
 #[test]

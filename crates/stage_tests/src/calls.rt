@@ -1,15 +1,13 @@
 //! The stages of a listing, called singly.
 use crate::making::{check_lines, line, stale};
 use catalogue_tests::making::check_told;
-use refusal::Row;
+use refusal::{Row, number_in};
 use stages::{Cut, Gathering, Line};
 use std::test::Fail;
 
 // The number that beginning a list of this length is refused with, or 0.
 fn beginning(length: usize) -> u16 {
-    Gathering::begin(length)
-        .err()
-        .map_or(0, |refusal| refusal.number())
+    number_in(Gathering::begin(length))
 }
 
 #[test]
@@ -92,9 +90,7 @@ fn cuts(rt: HostRuntime) -> Result<(), Fail> {
 
 // The number that reading a line is refused with, or 0.
 fn reading(cut: &Cut, memory: &[Line], at: usize) -> u16 {
-    cut.line(memory, at)
-        .err()
-        .map_or(0, |refusal| refusal.number())
+    number_in(cut.line(memory, at))
 }
 
 #[test]
