@@ -40,10 +40,20 @@ pub field_whenever : (w : ℕ) (xs : List ℕ) (at : ℕ) (P : ℕ → ℕ → T
 field_whenever w xs at P h =
     whenever_cond (leb (at + w) (length xs)) (big_endian w xs at) (at + w) (EndsEarly (length xs)) P (λ t. h (grind (arith, nat_tests)))
 
+-- so many bytes from a place on
+abbrev bytes_at : ℕ → List ℕ → ℕ → List ℕ
+bytes_at zero xs at = []
+bytes_at (suc w) xs at = bytes_at w xs at ++ get_or xs (at + w) 0 ∷ []
+
+bytes_stand : (w : ℕ) (xs : List ℕ) (at : ℕ) → at + w ≤ length xs → Stands (bytes_at w xs at) xs at (at + w)
+bytes_stand zero xs at h = record { is = ap (λ n. drop n xs) (sym (add-zero at)) }
+bytes_stand (suc w) xs at h =
+    let l : at + w < length xs = omega arith in
+    let e : at + w + 1 ≡ at + suc w = omega arith in
+    stands_behind (bytes_stand w xs at (omega arith)) (record { is = drop_more xs (at + w) 0 l ∙ ap (λ n. get_or xs (at + w) 0 ∷ drop n xs) e })
+
 field_one : (xs : List ℕ) (at : ℕ) → at + 1 ≤ length xs → Stands (big_endian 1 xs at ∷ []) xs at (at + 1)
-field_one xs at t =
-    let h : at < length xs = omega arith in
-    record { is = drop_more xs at 0 h ∙ ap (λ b. b ∷ drop (at + 1) xs) (sym (first_of xs at)) }
+field_one xs at t = rw (zero-add (get_or xs (at + 0) 0)) (bytes_stand 1 xs at t)
 
 pub one_written : (xs : List ℕ) (at : ℕ) → Whenever (field 1 xs at) (λ v n. Stands (v ∷ []) xs at n)
 one_written xs at = field_whenever 1 xs at (λ v n. Stands (v ∷ []) xs at n) (field_one xs at)
@@ -51,31 +61,12 @@ one_written xs at = field_whenever 1 xs at (λ v n. Stands (v ∷ []) xs at n) (
 pub two_written : (xs : List ℕ) (at : ℕ) → Bytes xs → Whenever (field 2 xs at) (λ v n. Stands (two v) xs at n)
 two_written xs at fit =
     field_whenever 2 xs at (λ v n. Stands (two v) xs at n) (λ t.
-    let h : at + 1 < length xs = omega arith in
-    let i : at < length xs = omega arith in
-    let e : (at + 1) + 1 ≡ at + 2 = omega arith in
-    let m : drop at xs ≡ get_or xs at 0 ∷ (get_or xs (at + 1) 0 ∷ drop (at + 2) xs) =
-    drop_more xs at 0 i ∙ ap (λ r. get_or xs at 0 ∷ r) (drop_more xs (at + 1) 0 h ∙ ap (λ n. get_or xs (at + 1) 0 ∷ drop n xs) e) in
-    let w : two (256 * (256 * 0 + get_or xs (at + 0) 0) + get_or xs (at + 1) 0) ≡ get_or xs at 0 ∷ (get_or xs (at + 1) 0 ∷ []) = rw (first_of xs at) (two_of (get_or xs at 0) (get_or xs (at + 1) 0) (fit (at + 1))) in
-    record { is = m ∙ ap (λ r. r ++ drop (at + 2) xs) (sym w) })
+    rw (zero-add (get_or xs (at + 0) 0), two_of (get_or xs (at + 0) 0) (get_or xs (at + 1) 0) (fit (at + 1))) (bytes_stand 2 xs at t))
 
 pub four_written : (xs : List ℕ) (at : ℕ) → Bytes xs → Whenever (field 4 xs at) (λ v n. Stands (four v) xs at n)
 four_written xs at fit =
     field_whenever 4 xs at (λ v n. Stands (four v) xs at n) (λ t.
-    let h : at + 3 < length xs = omega arith in
-    let i : at < length xs = omega arith in
-    let j : at + 1 < length xs = omega arith in
-    let k : at + 2 < length xs = omega arith in
-    let e : (at + 1) + 1 ≡ at + 2 = omega arith in
-    let f : (at + 2) + 1 ≡ at + 3 = omega arith in
-    let g : (at + 3) + 1 ≡ at + 4 = omega arith in
-    let last : drop (at + 3) xs ≡ get_or xs (at + 3) 0 ∷ drop (at + 4) xs = drop_more xs (at + 3) 0 h ∙ ap (λ n. get_or xs (at + 3) 0 ∷ drop n xs) g in
-    let third : drop (at + 2) xs ≡ get_or xs (at + 2) 0 ∷ drop (at + 3) xs = drop_more xs (at + 2) 0 k ∙ ap (λ n. get_or xs (at + 2) 0 ∷ drop n xs) f in
-    let second : drop (at + 1) xs ≡ get_or xs (at + 1) 0 ∷ drop (at + 2) xs = drop_more xs (at + 1) 0 j ∙ ap (λ n. get_or xs (at + 1) 0 ∷ drop n xs) e in
-    let m : drop at xs ≡ get_or xs at 0 ∷ (get_or xs (at + 1) 0 ∷ (get_or xs (at + 2) 0 ∷ (get_or xs (at + 3) 0 ∷ drop (at + 4) xs))) = cc (drop_more xs at 0 i) in
-    let w : four (256 * (256 * (256 * (256 * 0 + get_or xs (at + 0) 0) + get_or xs (at + 1) 0) + get_or xs (at + 2) 0) + get_or xs (at + 3) 0) ≡ get_or xs at 0 ∷ (get_or xs (at + 1) 0 ∷ (get_or xs (at + 2) 0 ∷ (get_or xs (at + 3) 0 ∷ []))) =
-    rw (first_of xs at) (four_of (get_or xs at 0) (get_or xs (at + 1) 0) (get_or xs (at + 2) 0) (get_or xs (at + 3) 0) (fit (at + 1)) (fit (at + 2)) (fit (at + 3))) in
-    record { is = m ∙ ap (λ r. r ++ drop (at + 4) xs) (sym w) })
+    rw (zero-add (get_or xs (at + 0) 0), four_of (get_or xs (at + 0) 0) (get_or xs (at + 1) 0) (get_or xs (at + 2) 0) (get_or xs (at + 3) 0) (fit (at + 1)) (fit (at + 2)) (fit (at + 3))) (bytes_stand 4 xs at t))
 
 -- what holds of a field holds of one within a range
 pub ranged_whenever : (w low high : ℕ) (xs : List ℕ) (at : ℕ) (P : ℕ → ℕ → Type 0) → Whenever (field w xs at) P → Whenever (ranged w low high xs at) (λ v n. P v n × (low ≤ v) × (v ≤ high))
