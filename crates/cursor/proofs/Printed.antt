@@ -46,7 +46,7 @@ printed xs at n h =
     let e : at + 0 ≡ at = omega arith in
     rw position_from-zero (rw e at (printed_from xs at n 0 z))
 
-abbrev part : ℕ → ℕ → Part
+abbrev pub part : ℕ → ℕ → Part
 part at n = record { start = at; len = n }
 
 -- a text behind its count: a run, if no byte of it is bad
@@ -62,11 +62,12 @@ handed : (xs : List ℕ) (at n : ℕ) (o : Option ℕ) → onward (scanned xs at
 handed xs at n (Some i) = refl
 handed xs at n None = handed_if (leb (at + n) (length xs)) (at + n) (part at n) (EndsEarly (length xs)) tt
 
+pub printed_told : (xs : List ℕ) (at n : ℕ) → at ≤ length xs → onward (repeated n printable tt xs at) (λ _ k. value (part at n) k) ≡ told xs at n (position unprinted (take n (drop at xs)))
+printed_told xs at n h = rw (printed xs at n h) (handed xs at n (position unprinted (take n (drop at xs))))
+
 -- the bytes behind the count are looked through up to the sheet's end
 pub text_told : (most : ℕ) (xs : List ℕ) (at n m : ℕ) (o : Option ℕ) → ranged 1 1 most xs at ≡ value n m → m ≤ length xs → o ≡ position unprinted (take n (take (length xs - m) (drop m xs))) → text most xs at ≡ told xs m n o
 text_told most xs at n m o a h u =
-    let p = printed xs m n h in
     let l : length (drop m xs) ≤ length xs - m = simp length-drop (omega arith) in
     let e : o ≡ position unprinted (take n (drop m xs)) = rw (take_all (length xs - m) (drop m xs) l) at u in
-    let q : repeated n printable tt xs m ≡ scanned xs m (m + n) o = rw e p in
-    rw (a, q) (handed xs m n o)
+    rw (a, e) (printed_told xs m n h)

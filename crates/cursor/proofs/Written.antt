@@ -1,14 +1,17 @@
 -- What a reading takes is written where it began. Assumes nothing.
-use Rattle.std.proofs.Common.{◌≡◌, ℕ, zero, suc, ◌+◌, ◌*◌, ◌/◌, ◌%◌, ◌<◌, ◌≤◌, ◌&&◌, ltb, leb, List, [], ◌∷◌, ◌++◌, length, get_or, take, drop, sym, refl, ap, ◌∙◌, add-zero, zero-add, arith}
+use Rattle.std.proofs.Common.{◌≡◌, ℕ, zero, suc, ◌+◌, ◌*◌, ◌/◌, ◌%◌, ◌<◌, ◌≤◌, ◌&&◌, ltb, leb, List, [], ◌∷◌, ◌++◌, length, get_or, take, drop, Some, None, Option, sym, refl, ap, ◌∙◌, add-zero, zero-add, arith}
 use lib.Arith.{digits_div, digits_mod}
-use Rattle.std.proofs.lemmas.List.{append_assoc, drop_more, take-append-drop, drop-drop, length-take-le, length-drop, get_or-take, get_or-drop}
+use Rattle.std.proofs.lemmas.List.{append_assoc, drop_more, take-append-drop, drop-drop, length-take-le, length-drop}
+use Rattle.std.specs.List.{position, position_or_len}
+use Rattle.std.proofs.lemmas.List.Sums.{fails_before_first}
 use Rattle.std.proofs.lemmas.Bool.Decides.{nat_tests}
 use Rattle.cursor.specs.declared.fault.Fault.TheVariants.{EndsEarly, AgainstRule, BytesLeft}
 use Rattle.cursor.specs.declared.part.Part.{Part}
 use Rattle.cursor.specs.Parts.{cut}
-use Rattle.cursor.specs.Readings.{value, onward, repeated, big_endian, field, ranged, run, printable, text, ended}
+use Rattle.cursor.specs.Readings.{value, onward, repeated, big_endian, field, ranged, run, printable, unprinted, text, ended}
 use Rattle.cursor.specs.Encodings.{Bytes, two, four, Text, counted}
-use Rattle.cursor.proofs.Whenever.{Whenever, whenever_weaker, whenever_then, whenever_cond, whenever_cond_not}
+use Rattle.cursor.proofs.Printed.{part, told, printed_told}
+use Rattle.cursor.proofs.Whenever.{Whenever, whenever_then, whenever_cond, whenever_cond_not}
 
 -- these bytes stand from one place to another
 pub record Stands (ys xs : List ℕ) (at next : ℕ) : Type 0 where
@@ -40,10 +43,20 @@ pub field_whenever : (w : ℕ) (xs : List ℕ) (at : ℕ) (P : ℕ → ℕ → T
 field_whenever w xs at P h =
     whenever_cond (leb (at + w) (length xs)) (big_endian w xs at) (at + w) (EndsEarly (length xs)) P (λ t. h (grind (arith, nat_tests)))
 
+-- so many bytes from a place on
+abbrev bytes_at : ℕ → List ℕ → ℕ → List ℕ
+bytes_at zero xs at = []
+bytes_at (suc w) xs at = bytes_at w xs at ++ get_or xs (at + w) 0 ∷ []
+
+bytes_stand : (w : ℕ) (xs : List ℕ) (at : ℕ) → at + w ≤ length xs → Stands (bytes_at w xs at) xs at (at + w)
+bytes_stand zero xs at h = record { is = ap (λ n. drop n xs) (sym (add-zero at)) }
+bytes_stand (suc w) xs at h =
+    let l : at + w < length xs = omega arith in
+    let e : at + w + 1 ≡ at + suc w = omega arith in
+    stands_behind (bytes_stand w xs at (omega arith)) (record { is = drop_more xs (at + w) 0 l ∙ ap (λ n. get_or xs (at + w) 0 ∷ drop n xs) e })
+
 field_one : (xs : List ℕ) (at : ℕ) → at + 1 ≤ length xs → Stands (big_endian 1 xs at ∷ []) xs at (at + 1)
-field_one xs at t =
-    let h : at < length xs = omega arith in
-    record { is = drop_more xs at 0 h ∙ ap (λ b. b ∷ drop (at + 1) xs) (sym (first_of xs at)) }
+field_one xs at t = rw (zero-add (get_or xs (at + 0) 0)) (bytes_stand 1 xs at t)
 
 pub one_written : (xs : List ℕ) (at : ℕ) → Whenever (field 1 xs at) (λ v n. Stands (v ∷ []) xs at n)
 one_written xs at = field_whenever 1 xs at (λ v n. Stands (v ∷ []) xs at n) (field_one xs at)
@@ -51,31 +64,12 @@ one_written xs at = field_whenever 1 xs at (λ v n. Stands (v ∷ []) xs at n) (
 pub two_written : (xs : List ℕ) (at : ℕ) → Bytes xs → Whenever (field 2 xs at) (λ v n. Stands (two v) xs at n)
 two_written xs at fit =
     field_whenever 2 xs at (λ v n. Stands (two v) xs at n) (λ t.
-    let h : at + 1 < length xs = omega arith in
-    let i : at < length xs = omega arith in
-    let e : (at + 1) + 1 ≡ at + 2 = omega arith in
-    let m : drop at xs ≡ get_or xs at 0 ∷ (get_or xs (at + 1) 0 ∷ drop (at + 2) xs) =
-    drop_more xs at 0 i ∙ ap (λ r. get_or xs at 0 ∷ r) (drop_more xs (at + 1) 0 h ∙ ap (λ n. get_or xs (at + 1) 0 ∷ drop n xs) e) in
-    let w : two (256 * (256 * 0 + get_or xs (at + 0) 0) + get_or xs (at + 1) 0) ≡ get_or xs at 0 ∷ (get_or xs (at + 1) 0 ∷ []) = rw (first_of xs at) (two_of (get_or xs at 0) (get_or xs (at + 1) 0) (fit (at + 1))) in
-    record { is = m ∙ ap (λ r. r ++ drop (at + 2) xs) (sym w) })
+    rw (zero-add (get_or xs (at + 0) 0), two_of (get_or xs (at + 0) 0) (get_or xs (at + 1) 0) (fit (at + 1))) (bytes_stand 2 xs at t))
 
 pub four_written : (xs : List ℕ) (at : ℕ) → Bytes xs → Whenever (field 4 xs at) (λ v n. Stands (four v) xs at n)
 four_written xs at fit =
     field_whenever 4 xs at (λ v n. Stands (four v) xs at n) (λ t.
-    let h : at + 3 < length xs = omega arith in
-    let i : at < length xs = omega arith in
-    let j : at + 1 < length xs = omega arith in
-    let k : at + 2 < length xs = omega arith in
-    let e : (at + 1) + 1 ≡ at + 2 = omega arith in
-    let f : (at + 2) + 1 ≡ at + 3 = omega arith in
-    let g : (at + 3) + 1 ≡ at + 4 = omega arith in
-    let last : drop (at + 3) xs ≡ get_or xs (at + 3) 0 ∷ drop (at + 4) xs = drop_more xs (at + 3) 0 h ∙ ap (λ n. get_or xs (at + 3) 0 ∷ drop n xs) g in
-    let third : drop (at + 2) xs ≡ get_or xs (at + 2) 0 ∷ drop (at + 3) xs = drop_more xs (at + 2) 0 k ∙ ap (λ n. get_or xs (at + 2) 0 ∷ drop n xs) f in
-    let second : drop (at + 1) xs ≡ get_or xs (at + 1) 0 ∷ drop (at + 2) xs = drop_more xs (at + 1) 0 j ∙ ap (λ n. get_or xs (at + 1) 0 ∷ drop n xs) e in
-    let m : drop at xs ≡ get_or xs at 0 ∷ (get_or xs (at + 1) 0 ∷ (get_or xs (at + 2) 0 ∷ (get_or xs (at + 3) 0 ∷ drop (at + 4) xs))) = cc (drop_more xs at 0 i) in
-    let w : four (256 * (256 * (256 * (256 * 0 + get_or xs (at + 0) 0) + get_or xs (at + 1) 0) + get_or xs (at + 2) 0) + get_or xs (at + 3) 0) ≡ get_or xs at 0 ∷ (get_or xs (at + 1) 0 ∷ (get_or xs (at + 2) 0 ∷ (get_or xs (at + 3) 0 ∷ []))) =
-    rw (first_of xs at) (four_of (get_or xs at 0) (get_or xs (at + 1) 0) (get_or xs (at + 2) 0) (get_or xs (at + 3) 0) (fit (at + 1)) (fit (at + 2)) (fit (at + 3))) in
-    record { is = m ∙ ap (λ r. r ++ drop (at + 4) xs) (sym w) })
+    rw (zero-add (get_or xs (at + 0) 0), four_of (get_or xs (at + 0) 0) (get_or xs (at + 1) 0) (get_or xs (at + 2) 0) (get_or xs (at + 3) 0) (fit (at + 1)) (fit (at + 2)) (fit (at + 3))) (bytes_stand 4 xs at t))
 
 -- what holds of a field holds of one within a range
 pub ranged_whenever : (w low high : ℕ) (xs : List ℕ) (at : ℕ) (P : ℕ → ℕ → Type 0) → Whenever (field w xs at) P → Whenever (ranged w low high xs at) (λ v n. P v n × (low ≤ v) × (v ≤ high))
@@ -103,69 +97,41 @@ two_bound xs at fit =
     let b = fit (at + 1) in
     omega arith)
 
--- a byte from 32 to 126 stands at a place
-abbrev Printed : List ℕ → ℕ → Type 0
-Printed xs k = (32 ≤ get_or xs k 0) × (get_or xs k 0 ≤ 126)
-
--- so do so many from a place on, if one stands there and the others behind it
-printed_more : (xs : List ℕ) (at n : ℕ) → Printed xs at → ((k : ℕ) → k < n → Printed xs (at + 1 + k)) → (k : ℕ) → k < suc n → Printed xs (at + k)
-printed_more xs at n one more zero h = rw (add-zero at) one
-printed_more xs at n one more (suc k) h =
-    let e : at + suc k ≡ at + 1 + k = omega arith in
-    let l : k < n = omega arith in
-    rw e (more k l)
-
--- so many printable bytes end so many places on, within the bytes
-abbrev Ends : List ℕ → ℕ → ℕ → ℕ → Type 0
-Ends xs at n next = (next ≡ at + n) × (next ≤ length xs) × ((k : ℕ) → k < n → Printed xs (at + k))
-
-printables_end : (n : ℕ) (xs : List ℕ) (at : ℕ) → at ≤ length xs → Whenever (repeated n printable tt xs at) (λ _ next. Ends xs at n next)
-printables_end zero xs at h = (sym (add-zero at), h, λ k l. absurd (omega arith))
-printables_end (suc n) xs at h =
-    let Next : ℕ → ℕ → Type 0 = λ v m. (m ≡ at + 1) × (m ≤ length xs) × (v ≡ get_or xs at 0) in
-    let After : Unit {0} → ℕ → Type 0 = λ _ m. (m ≡ at + 1) × (m ≤ length xs) × Printed xs at in
-    let one : Whenever (ranged 1 32 126 xs at) (λ v m. Next v m × (32 ≤ v) × (v ≤ 126)) = ranged_whenever 1 32 126 xs at Next (field_whenever 1 xs at Next (λ t. (refl, t, first_of xs at))) in
-    whenever_then (printable tt xs at) (λ s k. repeated n printable s xs k) After (λ _ next. Ends xs at (suc n) next)
-    (whenever_then (ranged 1 32 126 xs at) (λ _ k. value tt k) (λ v m. Next v m × (32 ≤ v) × (v ≤ 126)) After one (λ v m p.
-    let low : 32 ≤ get_or xs at 0 = omega arith in
-    let high : get_or xs at 0 ≤ 126 = omega arith in
-    (p.0.0, p.0.1, (low, high))))
-    (λ u m p.
-    whenever_weaker (repeated n printable tt xs m) (λ _ next. Ends xs m n next) (λ _ next. Ends xs at (suc n) next) (printables_end n xs m p.1) (λ v k q.
-    let e : k ≡ at + suc n = omega arith in
-    let more : (i : ℕ) → i < n → Printed xs (at + 1 + i) = rw p.0 at q.2 in
-    (e, q.1, printed_more xs at n p.2 more)))
-
--- the bytes of a part are printed where those of the sheet are
-part_text : (most : ℕ) (xs : List ℕ) (start len : ℕ) → start + len ≤ length xs → 1 ≤ len → len ≤ most → ((k : ℕ) → k < len → Printed xs (start + k)) → Text most (cut (record { start = start; len = len }) xs)
-part_text most xs start len h some short printed =
-    let l = (part_written (record { start = start; len = len }) xs h).0 in
-    let is : (k : ℕ) → k < len → get_or (take len (drop start xs)) k 0 ≡ get_or xs (start + k) 0 = λ k i. get_or-take len (drop start xs) k 0 i ∙ get_or-drop start xs k 0 in
-    record {
-      some = omega arith;
-      short = omega arith;
-      low = λ k i. let j : k < len = omega arith in rw (is k j) (printed k j).0;
-      high = λ k i. let j : k < len = omega arith in rw (is k j) (printed k j).1;
-    }
-
 -- a text stands where it was read, within the bytes
 pub record TextRead (most : ℕ) (xs : List ℕ) (at : ℕ) (p : Part) (next : ℕ) : Type 0 where
   pub stands : Stands (counted (cut p xs)) xs at next
   pub text : Text most (cut p xs)
   pub within : p.start + p.len ≤ length xs
 
+-- where no byte is bad, each is from 32 to 126
+none_bad : (xs : List ℕ) → position unprinted xs ≡ None → (k : ℕ) → k < length xs → (32 ≤ get_or xs k 0) × (get_or xs k 0 ≤ 126)
+none_bad xs e k h =
+    let l : length xs ≤ position_or_len unprinted xs = grind (arith, nat_tests) in
+    let f = fails_before_first unprinted xs k 0 (omega arith) in
+    (grind (arith, nat_tests), grind (arith, nat_tests))
+
+-- a text behind its count
+told_written : (most : ℕ) (xs : List ℕ) (at n m : ℕ) → Stands (n ∷ []) xs at m → 1 ≤ n → n ≤ most → (o : Option ℕ) → position unprinted (take n (drop m xs)) ≡ o → Whenever (told xs m n o) (TextRead most xs at)
+told_written most xs at n m s some short (Some i) e = tt
+told_written most xs at n m s some short None e =
+    whenever_cond (leb (m + n) (length xs)) (part m n) (m + n) (EndsEarly (length xs)) (TextRead most xs at) (λ t.
+    let h : m + n ≤ length xs = grind (arith, nat_tests) in
+    let w = part_written (part m n) xs h in
+    let b = none_bad (cut (part m n) xs) e in
+    let j : Stands ((n ∷ []) ++ cut (part m n) xs) xs at (m + n) = stands_behind s w.1 in
+    record {
+      stands = rw w.0 j;
+      text = record { some = omega arith; short = omega arith; low = λ k i. (b k i).0; high = λ k i. (b k i).1 };
+      within = h;
+    })
+
 pub text_written : (most : ℕ) (xs : List ℕ) (at : ℕ) → Whenever (text most xs at) (TextRead most xs at)
 text_written most xs at =
     let Next : ℕ → ℕ → Type 0 = λ v m. Stands (v ∷ []) xs at m × (m ≤ length xs) in
     let one : Whenever (ranged 1 1 most xs at) (λ v m. Next v m × (1 ≤ v) × (v ≤ most)) =
     ranged_whenever 1 1 most xs at Next (field_whenever 1 xs at Next (λ t. (field_one xs at t, t))) in
-    whenever_then (ranged 1 1 most xs at) (λ n m. onward (repeated n printable tt xs m) (λ _ k. value (record { start = m; len = n }) k)) (λ v m. Next v m × (1 ≤ v) × (v ≤ most)) (TextRead most xs at) one (λ n m a.
-    whenever_then (repeated n printable tt xs m) (λ _ k. value (record { start = m; len = n }) k) (λ _ next. Ends xs m n next) (TextRead most xs at) (printables_end n xs m a.0.1) (λ u k b.
-    let h : m + n ≤ length xs = omega arith in
-    let w = part_written (record { start = m; len = n }) xs h in
-    let s : Stands (cut (record { start = m; len = n }) xs) xs m k = rw b.0 w.1 in
-    let j : Stands ((n ∷ []) ++ cut (record { start = m; len = n }) xs) xs at k = stands_behind a.0.0 s in
-    record { stands = rw w.0 j; text = part_text most xs m n h a.1 a.2 b.2; within = h }))
+    whenever_then (ranged 1 1 most xs at) (λ n m. onward (repeated n printable tt xs m) (λ _ k. value (part m n) k)) (λ v m. Next v m × (1 ≤ v) × (v ≤ most)) (TextRead most xs at) one (λ n m a.
+    rw (printed_told xs m n a.0.1) (told_written most xs at n m a.0.0 a.1 a.2 (position unprinted (take n (drop m xs))) refl))
 
 pub ended_written : (xs : List ℕ) (at : ℕ) → Whenever (ended xs at) (λ _ n. (n ≡ at) × (length xs ≤ at))
 ended_written xs at =

@@ -32,8 +32,7 @@ pub fn read(sheet: &[u8], tree: &ServiceTree) -> Result<PlanSheet, Fault>
 fn read_all(sheet: &[u8], tree: &ServiceTree) -> Result<PlanSheet, Fault>
     ensures { Answers (map_ok contents result) (whole (empty_draft (parents_of tree.now)) sheet.now 0) }
 {
-    let mut reader = Reader::new(sheet, *tree);
-    reader.whole()
+    Reader::new(sheet, *tree).whole()
 }
 
 // A `u8` is below 256: told of each byte, for the theorem on the encoding. Nothing is tested.
