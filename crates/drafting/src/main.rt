@@ -17,9 +17,7 @@ fn main(rt: HostRuntime) -> anyhow::Result<()> {
 }
 
 fn run(rt: &HostRuntime) -> anyhow::Result<()> {
-    let Ok(tree) = ServiceTree::new(&SERVICES) else {
-        return Err(anyhow!("the shop's services are no tree"));
-    };
+    let tree = ServiceTree::new(&SERVICES).map_err(|_| anyhow!("the shop's services are no tree"))?;
     print_drafting(rt, tree)?;
     rt.println("")?;
     print_sheets(rt, &tree)

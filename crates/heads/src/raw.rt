@@ -1,6 +1,6 @@
 //! Heads as a caller has them.
 
-/// The values of a head, tested by no rule yet.
+/// The values of a head, tested by no rule yet: codes are numbers here, and kinds in a `Head`.
 #[derive(Drop)]
 pub struct RawHead {
     /// The supplier's number.
