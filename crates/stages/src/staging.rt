@@ -19,7 +19,7 @@ impl Gathering {
     pub fn begin(length: usize) -> Result<Gathering, Refusal>
         ensures { Begins length result }
     {
-        if length == 0 || length > MOST_TOTALS {
+        if !(1..=MOST_TOTALS).contains(&length) {
             return Err(Refusal::ListLength);
         }
         Ok(Gathering {
