@@ -60,6 +60,7 @@ fn entry_cost<T: SeatCharge>(entry: Option<T>, parts: u32) -> u64
     ensures is { result ≡ entry_cost T.cost entry parts }
     ensures bound { result ≤ 5000000000000000 }
 {
+    // A closure over `T`, for `map_or`, tells nothing of its result unless its clause is written on it.
     match entry {
         Some(entry) => entry.cost(parts),
         None => 0,

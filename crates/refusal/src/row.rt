@@ -22,6 +22,7 @@ pub trait Row {
 pub fn number_in<T: Drop, R: Row + Drop>(answer: Result<T, R>) -> u16
     ensures { MatchResult answer (λ _. result ≡ 0) (λ e. result ≡ (R.Row.row e).number) }
 {
+    // A closure over `R`, for `map_or`, tells nothing of its result unless its clause is written on it.
     match answer {
         Ok(_) => 0,
         Err(refusal) => refusal.number(),
