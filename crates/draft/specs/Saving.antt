@@ -99,11 +99,6 @@ seat_prices d = map (λ s. if_there None (end_price d) (end_at d.parents s)) (ra
 abbrev pub saved_table : DraftData → ℕ → TableData
 saved_table d sum = record { fixed = sum; prices = seat_prices d; groups = d.groups }
 
--- whether a seat belongs to a group, if there is one
-abbrev pub member_at : ℕ → Option GroupData → Bool
-member_at s (Some g) = slice_index_or g.members s false
-member_at s None = false
-
 -- whether a seat belongs to one of the groups
 abbrev pub in_group : ℕ → List GroupData → Bool
 in_group s gs = list_any (λ g. slice_index_or g.members s false) gs

@@ -104,13 +104,20 @@ fn holds(nodes: &[u8], node: u8) -> bool
 fn meets_another(tree: &ServiceTree, flags: &[bool; 40], node: u8) -> bool
     ensures { result ≡ is_some (lowest (meets (parents_of tree.now) flags.now node) (length (parents_of tree.now))) }
 {
-    tree.lowest(|other| other != node && meets(tree, flags, node, other))
+    tree.lowest(|other| meets(tree, flags, node, other))
         .is_some()
 }
 
-// Whether a node is flagged and shares a branch with another.
+// Whether another node is flagged and shares a branch with this one.
 fn meets(tree: &ServiceTree, flags: &[bool; 40], node: u8, other: u8) -> bool
-    ensures { result ≡ (slice_index_or flags.now other false && share_branch (parents_of tree.now) node other) }
+    ensures { result ≡ meets (parents_of tree.now) flags.now node other }
 {
-    flags.get(usize::from(other)).copied().unwrap_or(false) && tree.share_branch(node, other)
+    other != node && is_flagged(flags, other) && tree.share_branch(node, other)
+}
+
+// Whether a node is flagged; a number that is no node is not.
+fn is_flagged(flags: &[bool; 40], node: u8) -> bool
+    ensures { result ≡ slice_index_or flags.now node false }
+{
+    flags.get(usize::from(node)).copied().unwrap_or(false)
 }

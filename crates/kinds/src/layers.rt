@@ -1,4 +1,4 @@
-//! Making the kinds of tariff from their parts, and their parts back.
+//! Making the kinds of tariff from their parts, and their parts back: a method each, which hands out a field.
 ghost use Rattle.std.specs.Prelude.{◌≡◌};
 ghost use Rattle.prices.specs.Tables.{table_data, empty_table};
 ghost use Rattle.kinds.specs.Meanings.{addon_served, addon_drawn, addon_charge, addon_floor};

@@ -47,7 +47,7 @@ impl SeatCharge for Block {
 pub(crate) fn cost_over_seats<T: SeatCharge>(entries: &[Option<T>; 16], parts: &[u32; 16]) -> u64
     ensures { result ≡ over_seats (entry_cost T.cost) entries.now parts.now }
 {
-    // Two arrays are walked in step, and the clause of a closure over `T` would be longer than the loop.
+    // A sum over pairs of entries and parts leaves open that it fits, so the seats are gone through by number.
     let mut sum: u64 = 0;
     for seat in 0..16 {
         sum += entry_cost(entries[seat], parts[seat]);
@@ -60,9 +60,5 @@ fn entry_cost<T: SeatCharge>(entry: Option<T>, parts: u32) -> u64
     ensures is { result ≡ entry_cost T.cost entry parts }
     ensures bound { result ≤ 5000000000000000 }
 {
-    // A closure over `T`, for `map_or`, tells nothing of its result unless its clause is written on it.
-    match entry {
-        Some(entry) => entry.cost(parts),
-        None => 0,
-    }
+    entry.map_or(0, |entry| entry.cost(parts))
 }

@@ -4,7 +4,7 @@ ghost use Rattle.refusal.specs.Rows.{RowData, value_at};
 
 use crate::value::Value;
 
-/// A refusal: a row of the table.
+/// A refusal: a row of the table. Each enum of refusals answers from rows of its own.
 pub trait Row {
     // the row's number and values: the one definition for each case
     ghost row: { Self → RowData };
@@ -22,9 +22,5 @@ pub trait Row {
 pub fn number_in<T: Drop, R: Row + Drop>(answer: Result<T, R>) -> u16
     ensures { MatchResult answer (λ _. result ≡ 0) (λ e. result ≡ (R.Row.row e).number) }
 {
-    // A closure over `R`, for `map_or`, tells nothing of its result unless its clause is written on it.
-    match answer {
-        Ok(_) => 0,
-        Err(refusal) => refusal.number(),
-    }
+    answer.err().map_or(0, |refusal| refusal.number())
 }

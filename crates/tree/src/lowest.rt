@@ -11,7 +11,7 @@ impl ServiceTree {
         requires { F.IsAlwaysCallable test }
         ensures { (passes : ℕ → Bool) → ((n : ℕ) (b : Bool) → n < length (parents_of self.now) → F.post test n b → b ≡ passes n) → result ≡ lowest passes (length (parents_of self.now)) }
     {
-        // A closure over `F`, for `find`, tells nothing of its result unless its clause is written on it.
+        // `find` was tried: it speaks of a closure around the test, and what follows for the test itself stays open.
         let count = self.count as u8;
         for node in 0..count {
             if test(node) {

@@ -41,14 +41,14 @@ impl ServiceTree {
         ensures is { result ≡ end_at (parents_of self.now) seat }
         ensures means { MatchOption result ((e : ℕ) → Seat (parents_of self.now) e seat → ⊥) (λ e. Seat (parents_of self.now) e seat) }
     {
-        self.lowest(|node| self.has_seat(node, seat))
+        self.lowest(|node| self.is_end_with(node, seat))
     }
 
-    // Whether a node is the end service of a seat.
-    fn has_seat(&self, node: u8, seat: u8) -> bool
-        ensures { result ≡ (is_end (parents_of self.now) node && ends_below node (parents_of self.now) == seat) }
+    // Whether a node is an end service, and so many are numbered lower.
+    fn is_end_with(&self, node: u8, lower: u8) -> bool
+        ensures { result ≡ (is_end (parents_of self.now) node && ends_below node (parents_of self.now) == lower) }
     {
-        self.is_end_service(node) && end_count(self.parents(), node) == usize::from(seat)
+        self.is_end_service(node) && end_count(self.parents(), node) == usize::from(lower)
     }
 }
 

@@ -38,7 +38,7 @@ impl Group {
             return uses;
         }
         let q = s.min(self.units as u64 * 1000);
-        // Members, uses and parts left are walked in step with two running values: the seat's number is the plainest.
+        // Each turn reads whether a seat is a member and its use, writes what is left there, and carries two sums on.
         let mut parts = [0; 16];
         let mut p: u64 = 0;
         let mut before: u64 = 0;

@@ -9,7 +9,7 @@ use crate::group::Group;
 pub const MOST_GROUPS: usize = 8;
 
 /// The groups of one plan or option: at most 8, by ascending order, no two orders alike.
-// A tariff is a plain value that is copied into each catalogue, so its groups hold no heap.
+// Groups are copied with the tables and drafts that hold them, so they are an array and allocate nothing.
 #[derive(Clone, Copy)]
 pub struct Groups {
     pub(crate) entries: [Group; 8],

@@ -14,6 +14,7 @@ use crate::seats::Seats;
 use crate::uses::Uses;
 use ordered::{Full, Ranked, put};
 
+// By one field of three: a derived order would compare members, and two groups of one order would not be equal.
 impl Ranked for Group {
     ghost before = { lower };
 
