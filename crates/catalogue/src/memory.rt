@@ -10,7 +10,7 @@ use crate::slot::Slot;
 pub const MOST_PLACES: usize = 256;
 
 /// A catalogue of offers: 1 to 256 places. Two published namesakes never share a day.
-// The caller lends one memory for heads and one for tariffs, so they stay side by side.
+// One memory for heads and one for tariffs is handed over at opening, so there are two vectors.
 #[derive(Drop)]
 pub struct Catalogue<T> {
     pub(crate) slots: Vec<Slot>,

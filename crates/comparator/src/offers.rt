@@ -1,17 +1,13 @@
 //! The tariffs of the small shop.
 use kinds::{AddOn, BlockTariff, DataOffer, PhoneOffer, Plan, Promotion};
 use prices::{Block, BlockTable, FixedSum, PriceTable, UnitPrice};
+use std::array;
 use usage::{Groups, Refusal, Seats};
 
 // The same price at seats 0 to 3, none elsewhere.
 fn four(price: u32) -> Result<[Option<UnitPrice>; 16], Refusal> {
-    let mut prices = [None; 16];
     let each = UnitPrice::new(price)?;
-    prices[0] = Some(each);
-    prices[1] = Some(each);
-    prices[2] = Some(each);
-    prices[3] = Some(each);
-    Ok(prices)
+    Ok(array::from_fn(|seat| (seat < 4).then_some(each)))
 }
 
 /// A plan of this fixed sum and price at seats 0 to 3, with a promotion that takes a reduction off.
@@ -24,17 +20,13 @@ pub fn plain_plan(sum: u32, price: u32, reduction: u32) -> Result<PhoneOffer, Re
 // Blocks of so many parts at seats 0 and 1.
 fn two_blocks(parts: u32, price: u32) -> Result<BlockTable, Refusal> {
     let block = Block::new(parts, UnitPrice::new(price)?)?;
-    let mut blocks = [None; 16];
-    blocks[0] = Some(block);
-    blocks[1] = Some(block);
+    let blocks = array::from_fn(|seat| (seat < 2).then_some(block));
     Ok(BlockTable::new(blocks))
 }
 
 /// A block tariff of this fixed sum, under an option of 1.00 with some units over seats 0 and 1.
 pub fn blocks(sum: u32, parts: u32, price: u32, units: u32) -> Result<DataOffer, Refusal> {
-    let mut flags = [false; 16];
-    flags[0] = true;
-    flags[1] = true;
+    let flags = array::from_fn(|seat| seat < 2);
     let groups = Groups::none().add(Seats::new(flags), units, 1)?;
     let option = PriceTable::new(FixedSum::new(100)?, [None; 16], groups);
     let tariff = BlockTariff::new(FixedSum::new(sum)?, two_blocks(parts, price)?);

@@ -3,7 +3,7 @@ use crate::offers::{blocks, plain_plan};
 use anyhow::anyhow;
 use catalogue::Slot;
 use examples::worked_offer;
-use heads::RawHead;
+use heads::{Contract, Network, RawHead};
 use journal::{Call, Given};
 use kinds::{DataOffer, PhoneOffer};
 use listing::Enquiry;
@@ -21,16 +21,19 @@ fn head(
     heap: Global,
     supplier: u16,
     name: &str,
-    contract: u8,
+    contract: Contract,
     first: u16,
     last: u16,
 ) -> Result<RawHead, AllocError> {
-    let term = if contract == 1 { 12 } else { 0 };
+    let term = match contract {
+        Contract::Subscription => 12,
+        Contract::Card => 0,
+    };
     Ok(RawHead {
         supplier,
         name: Vec::from_slice(heap, name.as_bytes())?,
-        network: 2,
-        contract,
+        network: Network::Mobile.into(),
+        contract: contract.into(),
         term,
         first,
         last,
@@ -47,7 +50,7 @@ fn list<T>(
 ) -> Result<Call<T>, AllocError> {
     let enquiry = Enquiry {
         day,
-        network: 2,
+        network: Network::Mobile.into(),
         contract: 0,
         term: 24,
         length,
@@ -100,7 +103,7 @@ pub fn data_given(heap: Global) -> anyhow::Result<(Given<DataOffer>, Vec<&'stati
     Ok((given, labels))
 }
 
-// Calls in their order, and what each is in words.
+// Calls in their order, and what each is in words: a run is given the calls alone.
 #[derive(Drop)]
 struct Script<T> {
     calls: Vec<Call<T>>,
@@ -129,7 +132,7 @@ fn phone_entries(heap: Global, script: &mut Script<PhoneOffer>) -> anyhow::Resul
         "enter phone 0",
         Call::Enter(
             0,
-            head(heap, 7, "Alfa 10", 1, 100, 500)?,
+            head(heap, 7, "Alfa 10", Contract::Subscription, 100, 500)?,
             made(worked_offer())?,
         ),
     )?;
@@ -138,7 +141,7 @@ fn phone_entries(heap: Global, script: &mut Script<PhoneOffer>) -> anyhow::Resul
         "enter phone 1",
         Call::Enter(
             1,
-            head(heap, 9, "Beta", 1, 0, 65_535)?,
+            head(heap, 9, "Beta", Contract::Subscription, 0, 65_535)?,
             made(plain_plan(1_500, 700, 200))?,
         ),
     )?;
@@ -147,7 +150,7 @@ fn phone_entries(heap: Global, script: &mut Script<PhoneOffer>) -> anyhow::Resul
         "enter phone 2",
         Call::Enter(
             2,
-            head(heap, 12, "Gama card", 2, 0, 65_535)?,
+            head(heap, 12, "Gama card", Contract::Card, 0, 65_535)?,
             made(plain_plan(0, 3_000, 0))?,
         ),
     )?;
@@ -156,7 +159,7 @@ fn phone_entries(heap: Global, script: &mut Script<PhoneOffer>) -> anyhow::Resul
         "enter phone 3",
         Call::Enter(
             3,
-            head(heap, 7, "Alfa 10", 1, 400, 900)?,
+            head(heap, 7, "Alfa 10", Contract::Subscription, 400, 900)?,
             made(plain_plan(900, 900, 0))?,
         ),
     )?;
@@ -174,20 +177,24 @@ fn phone_changes(heap: Global, script: &mut Script<PhoneOffer>) -> anyhow::Resul
         "enter phone 8",
         Call::Enter(
             8,
-            head(heap, 9, "Beta", 1, 0, 10)?,
+            head(heap, 9, "Beta", Contract::Subscription, 0, 10)?,
             made(plain_plan(1, 1, 0))?,
         ),
     )?;
     script.add(
         "enter phone 4",
-        Call::Enter(4, head(heap, 9, "", 1, 0, 10)?, made(plain_plan(1, 1, 0))?),
+        Call::Enter(
+            4,
+            head(heap, 9, "", Contract::Subscription, 0, 10)?,
+            made(plain_plan(1, 1, 0))?,
+        ),
     )?;
     script.add("amend phone 5", Call::Amend(5, 10))?;
     script.add(
         "enter phone 4",
         Call::Enter(
             4,
-            head(heap, 9, "Beta", 1, 0, 10)?,
+            head(heap, 9, "Beta", Contract::Subscription, 0, 10)?,
             made(plain_plan(1, 1, 0))?,
         ),
     )?;
@@ -225,7 +232,7 @@ fn data_calls(heap: Global, script: &mut Script<DataOffer>) -> anyhow::Result<()
         "enter data 0",
         Call::Enter(
             0,
-            head(heap, 20, "Small blocks", 1, 0, 65_535)?,
+            head(heap, 20, "Small blocks", Contract::Subscription, 0, 65_535)?,
             made(blocks(300, 1_000, 40, 5))?,
         ),
     )?;
@@ -233,7 +240,7 @@ fn data_calls(heap: Global, script: &mut Script<DataOffer>) -> anyhow::Result<()
         "enter data 3",
         Call::Enter(
             3,
-            head(heap, 21, "Large blocks", 1, 0, 65_535)?,
+            head(heap, 21, "Large blocks", Contract::Subscription, 0, 65_535)?,
             made(blocks(200, 10_000, 500, 0))?,
         ),
     )?;

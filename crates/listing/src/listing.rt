@@ -41,7 +41,7 @@ pub fn list<T: Tariff>(
         asked,
         uses,
     };
-    // A plain table: a list takes no memory beyond the lines that are lent.
+    // An array of a fixed size, and how many of it are used: a list allocates nothing.
     let mut queue = [Queued { floor: 0, place: 0 }; MOST_PLACES];
     let waiting = request.line_up(&mut queue);
     let stage = request.gather(&queue[..waiting], begun, memory);

@@ -21,6 +21,7 @@ impl<T: Tariff> Request<'_, T> {
         ensures within { result ≤ length (held self.now.catalogue.now) }
         ensures queued { take result waiting.new ≡ queue (offers_for (meaning T.served T.drawn T.charged T.floor) self.now) }
     {
+        // How many are held stands beside the memory that is lent, as `put` takes it.
         let mut count = 0;
         for place in 0..self.catalogue.places() {
             if let Some(floor) = self.floor_at(place) {

@@ -3,6 +3,7 @@ ghost use Rattle.ranking.specs.Queues.{sooner};
 
 use ordered::Ranked;
 
+// A floor is no total: a type of its own beside `stages::Line`, of the same shape.
 /// An offer that waits to be costed: its floor, in ten-millionths, and its place of the catalogue.
 #[derive(Clone, Copy, Debug, PartialEq, Eq, PartialOrd, Ord)]
 pub struct Queued {
