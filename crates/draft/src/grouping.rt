@@ -23,6 +23,7 @@ impl Draft {
         self.with_group(order, units, nodes)
     }
 
+    // By its first clause; the others follow from it once, and not at each exit.
     fn with_group(self, order: u8, units: u32, nodes: &[u8]) -> Result<Draft, Refusal>
         ensures { map_ok draft_data result ≡ enter_group (draft_data self) order units nodes.now }
     {

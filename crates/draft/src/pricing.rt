@@ -51,6 +51,7 @@ impl Draft {
         self.with_price(node, price)
     }
 
+    // By its first clause; the second follows from it once, and not at each exit.
     fn with_price(self, node: u8, price: u32) -> Result<Draft, Refusal>
         ensures { map_ok draft_data result ≡ enter_price (draft_data self) node price }
     {

@@ -34,6 +34,7 @@ impl Draft {
         self.to_plan(sum)
     }
 
+    // By their first clauses; the second ones follow from them once, and not at each exit.
     fn to_addon_table(&self, sum: u32) -> Result<PriceTable, Refusal>
         ensures { map_ok table_data result ≡ save_addon (draft_data self.now) sum }
     {
