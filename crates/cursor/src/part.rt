@@ -20,7 +20,7 @@ impl Part {
             .start
             .checked_add(self.len)
             .filter(|end| *end <= sheet.len())?;
-        // `sheet.get(..)` does not promise that the part lies in the sheet's own memory
+        // `sheet.get(..)` does not promise that the part lies in the sheet's own memory.
         Some(&sheet[self.start..end])
     }
 }

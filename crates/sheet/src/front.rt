@@ -5,6 +5,7 @@ ghost use Rattle.cursor.specs.Cursors.{Took};
 ghost use Rattle.draft.specs.Rules.{map_ok};
 ghost use Rattle.sheet.specs.Layout.{front, lowest_network, longest_term};
 ghost use Rattle.sheet.specs.Sheets.{head_values};
+ghost use Rattle.sheet.specs.Readers.{TookKind};
 
 use crate::head::SheetHead;
 use cursor::{Cursor, Fault};
@@ -37,24 +38,32 @@ pub(crate) fn front(cursor: &mut Cursor) -> Result<SheetHead, Fault>
 fn contract(cursor: &mut Cursor) -> Result<Contract, Fault>
     ensures { Took (ranged 1 1 2) cursor.old (map_ok contract_code result) cursor.new }
 {
-    let mut scan = *cursor;
-    let start = scan.place();
-    let contract = Contract::try_from(scan.number::<u8>()?).map_err(|_| Fault::AgainstRule(start))?;
-    *cursor = scan;
-    Ok(contract)
+    kind(cursor)
 }
 
 fn network(cursor: &mut Cursor, contract: Contract) -> Result<Network, Fault>
     ensures { Took (ranged 1 (lowest_network (contract_code contract)) 2) cursor.old (map_ok network_code result) cursor.new }
 {
     let mut scan = *cursor;
-    let start = scan.place();
-    let network = Network::try_from(scan.number::<u8>()?).map_err(|_| Fault::AgainstRule(start))?;
+    let network = kind(&mut scan)?;
     if contract == Contract::Card && network == Network::Fixed {
-        return Err(Fault::AgainstRule(start));
+        return Err(Fault::AgainstRule(cursor.place()));
     }
     *cursor = scan;
     Ok(network)
+}
+
+// The kind whose code is the next byte; a byte that is no code is against the rule.
+fn kind<K: TryFrom<u8>>(cursor: &mut Cursor) -> Result<K, Fault>
+where
+    K::Error: Drop,
+    ensures { TookKind K.try_from_gives cursor.old result cursor.new }
+{
+    let mut scan = *cursor;
+    let start = scan.place();
+    let kind = K::try_from(scan.number()?).map_err(|_| Fault::AgainstRule(start))?;
+    *cursor = scan;
+    Ok(kind)
 }
 
 fn term(cursor: &mut Cursor, contract: Contract) -> Result<u8, Fault>

@@ -16,8 +16,15 @@ use crate::head::SheetHead;
 use crate::reader::Reader;
 use cursor::Cursor;
 use draft::Draft;
+use heads::name::MOST_BYTES;
 use kinds::Plan;
 use tree::ServiceTree;
+
+// The most bytes of a name: as many as an offer's name may have.
+pub(crate) const LONGEST_NAME: u8 = MOST_BYTES as u8;
+
+// The most bytes of a link.
+pub(crate) const LONGEST_LINK: u8 = 64;
 
 impl<'a> Reader<'a> {
     /// A reader at the first byte of a sheet, with an empty draft on a tree.
@@ -43,14 +50,14 @@ impl<'a> Reader<'a> {
     pub fn name(&mut self) -> Result<&'a [u8], Fault>
         ensures { ReadText 24 self.old result self.new }
     {
-        self.text(24)
+        self.text(LONGEST_NAME)
     }
 
     /// The link: 1 to 64 bytes of the sheet itself.
     pub fn link(&mut self) -> Result<&'a [u8], Fault>
         ensures { ReadText 64 self.old result self.new }
     {
-        self.text(64)
+        self.text(LONGEST_LINK)
     }
 
     /// The prices: 0 to 40 entries, which go to the draft.

@@ -14,6 +14,7 @@ ghost use Rattle.sheet.specs.Readers.{ReadPlace};
 use crate::fault::Fault;
 use crate::plan_sheet::PlanSheet;
 use crate::reader::Reader;
+use crate::reading::{LONGEST_LINK, LONGEST_NAME};
 use cursor::Part;
 use kinds::Plan;
 use tree::ServiceTree;
@@ -50,8 +51,8 @@ impl<'a> Reader<'a> {
         ensures { Answers (map_ok contents result) (whole (draft_data self.old.draft) self.old.cursor.bytes.now self.old.cursor.at) }
     {
         let head = self.head()?;
-        let name = self.text_place(24)?;
-        let link = self.text_place(64)?;
+        let name = self.text_place(LONGEST_NAME)?;
+        let link = self.text_place(LONGEST_LINK)?;
         let plan = self.plan(head.sum)?;
         Ok(PlanSheet {
             head,

@@ -1,16 +1,21 @@
-use Rattle.std.proofs.Common.{◌≡◌, refl, rules, arith}
-use Rattle.std.proofs.lemmas.Result.{err_from_is_err_and}
+use Rattle.std.proofs.Common.{Ok, Err, Result, refl, sym, arith}
+use Rattle.heads.specs.Codes.{Decodes}
+use Rattle.heads.specs.Kinds.{contract_code}
+use Rattle.heads.specs.declared.kinds.Contract.{Contract}
 use Rattle.heads.specs.declared.kinds.Contract.TheVariants.{Subscription, Card}
-use Rattle.cursor.specs.declared.fault.Fault.TheVariants.{AgainstRule}
-use Rattle.sheet.proofs.Ranges.{ranged_out, declined}
+use Rattle.cursor.specs.declared.cursor.Cursor.{Cursor}
+use Rattle.cursor.specs.declared.fault.Fault.{Fault}
+use Rattle.cursor.specs.Readings.{ranged}
+use Rattle.cursor.specs.Cursors.{Took}
+use Rattle.draft.specs.Rules.{map_ok}
+use Rattle.sheet.specs.Readers.{TookKind}
+use Rattle.sheet.proofs.Ranges.{no_kind}
 use Rattle.sheet.proofs.front.contract.Goals as goal
 
-pub returns-in_err-contract : goal.returns-in_err-contract
-returns-in_err-contract c =
-    let p = err_from_is_err_and c.from_residual-in_err-contract.result c.from_residual-in_err-contract.ensures.1 in
-    let d = declined c.try_from.result c.map_err.result c.in_err-contract.field-0.0 _ _ _ c.try_from.ensures c.map_err.ensures.cases c.in_err-contract.was in
-    let n = c.in_ok-number.ensures in
-    let s = d.1.1 Subscription in
-    let t = d.1.1 Card in
-    let k : c.in_err-contract.field-0.0 ≡ AgainstRule c.args.cursor.now.at = search rules in
-    rw (p.1, p.2, k) (ranged_out 1 1 2 c.args.cursor.now.bytes.now c.args.cursor.now.at _ _ n.0 (λ h. omega arith), refl)
+took : (s t : Cursor) (r : Result Contract Fault) → TookKind (Decodes contract_code) s r t → Took (ranged 1 1 2) s (map_ok contract_code r) t
+took s t (Ok Subscription) (code, h, g, same) = rw (h, sym g) (refl, same)
+took s t (Ok Card) (code, h, g, same) = rw (h, sym g) (refl, same)
+took s t (Err e) k = no_kind contract_code 1 2 s t e (λ code none h. let a = none Subscription in let b = none Card in omega arith) k
+
+pub returns : goal.returns
+returns c = took c.args.cursor.now c.kind.new.cursor c.kind.result c.kind.ensures
