@@ -1,11 +1,13 @@
 -- End services and their seats. Assumes nothing.
-use Rattle.std.proofs.Common.{◌≡◌, ℕ, zero, suc, ◌+◌, ◌<◌, ◌≤◌, Bool, true, false, cond, not, eqb, ltb, List, [], ◌∷◌, map, sum, sum_by, length, Some, None, Decides, Option, sym, refl, ap, ◌∙◌, inl, inr, add-zero, add-one, arith, MatchOption}
-use Rattle.std.specs.List.{HoldsAt, range_with_len}
-use Rattle.std.proofs.lemmas.List.{get_or_default}
+use Rattle.std.proofs.Common.{◌≡◌, ℕ, zero, suc, ◌+◌, ◌<◌, ◌≤◌, Bool, true, false, cond, not, ◌&&◌, eqb, ltb, List, [], ◌∷◌, ◌++◌, map, sum, sum_by, length, Some, None, Decides, Option, sym, refl, ap, ◌∙◌, inl, inr, add-zero, add-one, arith, MatchOption}
+use Rattle.std.specs.List.{HoldsAt, range_with_len, filter, slice_get}
+use Rattle.std.proofs.Math.Dec.{eqb-zero-suc, eqb-suc-suc}
+use Rattle.std.proofs.lemmas.List.{get_or_default, map-id}
 use Rattle.std.proofs.lemmas.Bool.Decides.{Decides-by_or, Decides-eqb}
 use Rattle.std.proofs.lemmas.Bool.{and_parts, and_from, not-true, not_from_false, eqb-true, eq-eqb, both_ways, cases_order, cases_Bool, ltb-true, lt-ltb}
-use Rattle.std.proofs.lemmas.List.Sums.{sum-map, sum_by-append, sum_by-cons}
-use Rattle.std.proofs.lemmas.List.FromFn.{map-range_with_len_more}
+use Rattle.std.proofs.lemmas.List.Sums.{sum-map, sum_by-append, sum_by-cons, length-filter}
+use Rattle.std.proofs.lemmas.List.FromFn.{map-range_with_len_more, filter_of_map_range_with_len_more}
+use Rattle.refusal.specs.Lowest.{or_else, lowest}
 use Rattle.refusal.proofs.Lowest.{lowest_tells, Answers}
 use Rattle.tree.specs.Trees.{parent, among, ends_below, is_end, seat_of, has_seat, end_at, EndService, Seat, Seating}
 
@@ -60,6 +62,24 @@ ends_same n ps e = ends_next n ps ∙ rw e (add-zero (ends_below n ps))
 
 pub ends_more : (n : ℕ) (ps : List ℕ) → among n ps ≡ false → ends_below (n + 1) ps ≡ ends_below n ps + 1
 ends_more n ps e = ends_next n ps ∙ rw e refl
+
+-- an element more, or none, at the end of a list
+get_more : (ns : List ℕ) (n s : ℕ) (b : Bool) → slice_get (ns ++ cond b (n ∷ []) []) s ≡ or_else (slice_get ns s) (cond (b && eqb (length ns) s) (Some n) None)
+get_more [] n zero true = refl
+get_more [] n (suc s) true = rw (eqb-zero-suc s) refl
+get_more [] n s false = refl
+get_more (m ∷ ns) n zero b = refl
+get_more (m ∷ ns) n (suc s) b = rw (eqb-suc-suc (length ns) s) (get_more ns n s b)
+
+-- of the end services below n, the one at the place s is the lowest that so many are numbered below
+pub ends_at : (ps : List ℕ) (s n : ℕ) → slice_get (filter (λ k. not (among k ps)) (range_with_len 0 n)) s ≡ lowest (has_seat ps s) n
+ends_at ps s zero = refl
+ends_at ps s (suc n) =
+    let p = λ (k : ℕ). not (among k ps) in
+    let ends = filter p (range_with_len 0 n) in
+    let more : filter p (range_with_len 0 (suc n)) ≡ ends ++ cond (p n) (n ∷ []) [] =
+    rw (map-id, map-id, add-one) at (filter_of_map_range_with_len_more p (λ k. k) 0 n n (omega arith)) in
+    rw (more, get_more ends n s (p n), length-filter p (range_with_len 0 n), ends_at ps s n) refl
 
 -- the test for the end service of a seat
 pub seat_here : (ps : List ℕ) (s n : ℕ) → among n ps ≡ false → ends_below n ps ≡ s → has_seat ps s n ≡ true

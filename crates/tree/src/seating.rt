@@ -1,5 +1,6 @@
 //! End services and their seats.
-ghost use Rattle.std.specs.Prelude.{◌≡◌, ℕ, ◌≤◌, ◌&&◌, ◌==◌, length, Decides, MatchOption};
+ghost use Rattle.std.specs.Prelude.{◌≡◌, ℕ, ◌≤◌, not, length, filter, slice_get, Decides, MatchOption};
+ghost use Rattle.std.specs.List.{range_with_len};
 ghost use Rattle.tree.specs.Trees.{EndService, Seat, Seating, among, is_end, ends_below, seat_of, end_at};
 ghost use Rattle.tree.specs.Held.{parents_of};
 
@@ -41,14 +42,8 @@ impl ServiceTree {
         ensures is { result ≡ end_at (parents_of self.now) seat }
         ensures means { MatchOption result ((e : ℕ) → Seat (parents_of self.now) e seat → ⊥) (λ e. Seat (parents_of self.now) e seat) }
     {
-        self.lowest(|node| self.is_end_with(node, seat))
-    }
-
-    // Whether a node is an end service, and so many are numbered lower.
-    fn is_end_with(&self, node: u8, lower: u8) -> bool
-        ensures { result ≡ (is_end (parents_of self.now) node && ends_below node (parents_of self.now) == lower) }
-    {
-        self.is_end_service(node) && end_count(self.parents(), node) == usize::from(lower)
+        let count = self.count as u8;
+        end_at_place(self.parents(), count, seat)
     }
 }
 
@@ -65,4 +60,13 @@ pub(crate) fn end_count(parents: &[u8], upto: u8) -> usize
     ensures few { result ≤ upto }
 {
     (0..upto).filter(|node| !has_child(parents, *node)).count()
+}
+
+// The end service at a place among those of the nodes numbered below `upto`, if there are so many.
+fn end_at_place(parents: &[u8], upto: u8, place: u8) -> Option<u8>
+    ensures { result ≡ slice_get (filter (λ k. not (among k parents.now)) (range_with_len 0 upto)) place }
+{
+    (0..upto)
+        .filter(|node| !has_child(parents, *node))
+        .nth(usize::from(place))
 }
