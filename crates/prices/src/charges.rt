@@ -1,5 +1,5 @@
 //! Tables of prices: look-up, what the priced seats cost, and drawing.
-ghost use Rattle.std.specs.Prelude.{◌≡◌, ◌*◌, ◌≤◌, map, None, slice_index_or};
+ghost use Rattle.std.specs.Prelude.{◌≡◌, ◌*◌, ◌≤◌, map, is_some, None, slice_index_or};
 ghost use Rattle.std.specs.Option.{option_map};
 ghost use Rattle.usage.specs.Groups.{drawn_all};
 ghost use Rattle.usage.specs.Held.{held};
@@ -8,6 +8,7 @@ ghost use Rattle.prices.specs.Tables.{priced_cost, priced_seats, table_data, emp
 use crate::amounts::{FixedSum, UnitPrice};
 use crate::over_seats::cost_over_seats;
 use crate::table::PriceTable;
+use std::array;
 use usage::{Groups, Seats, Uses};
 
 impl PriceTable {
@@ -58,8 +59,15 @@ impl PriceTable {
     pub fn priced(&self) -> Seats
         ensures { result.flags ≡ priced_seats (table_data self.now).prices }
     {
-        let flags = self.prices.map(|price| price.is_some());
+        let flags = array::from_fn(|seat| self.is_priced(seat));
         Seats::new(flags)
+    }
+
+    // Whether a seat has a price.
+    fn is_priced(&self, seat: usize) -> bool
+        ensures { result ≡ is_some (slice_index_or self.now.prices seat None) }
+    {
+        self.price(seat).is_some()
     }
 
     /// What the uses of the priced seats cost, in ten-millionths.

@@ -1,6 +1,6 @@
 -- Arrays made by calls of a closure that changes nothing. Assumes nothing.
 use Rattle.std.proofs.Common.{◌≡◌, ℕ, zero, suc, ◌+◌, ◌<◌, List, length, get_or, map, sym, refl, ap, ◌∙◌, subst, arith}
-use Rattle.std.specs.Array.{IsFromFnResult, IsFromFnResultFrom, IsMapOf, MapsFrom}
+use Rattle.std.specs.Array.{IsFromFnResult, IsFromFnResultFrom}
 use Rattle.std.specs.Fn.{Called}
 use Rattle.std.proofs.lemmas.List.{same_lists, length-map, get_or-map}
 use denote.Param.Members.{Mut}
@@ -21,20 +21,9 @@ module _ {F B : Type 0} (g : Mut F (ℕ × Unit {0}) B) (f : F) (h : ℕ → B) 
   pub from_fn_at : (n : ℕ) → IsFromFnResult g f ys n → (k : ℕ) (d : B) → k < n → get_or ys k d ≡ h k
   from_fn_at n w k d lt = from_each f refl n 0 k k w.each (omega arith) lt d
 
-module _ {F A B : Type 0} (g : Mut F (A × Unit {0}) B) (f : F) (h : A → B) (step : (x : A) (y : B) (q : F) → Called g f (x, tt) y q → (q ≡ f) × (y ≡ h x)) (xs : List A) (ys : List B) where
-  -- the k-th of the elements from i on
-  map_each : (p : F) → p ≡ f → (n i k j : ℕ) → MapsFrom g p xs ys i n → j ≡ i + k → k < n → (d : A) (e : B) → get_or ys j e ≡ h (get_or xs j d)
-  map_each p o zero i k j w is lt d e = absurd (omega arith)
-  map_each p o (suc n) i zero j (q, x, y, from, at, call, rest) is lt d e =
-      let r : i ≡ j = omega arith in
-      let c = step x y q (subst (λ r. Called g r (x, tt) y q) o call) in
-      subst (λ m. get_or ys m e ≡ h (get_or xs m d)) r (at.1 e ∙ c.1 ∙ ap h (sym (from.1 d)))
-  map_each p o (suc n) i (suc k) j (q, x, y, from, at, call, rest) is lt d e =
-      let c = step x y q (subst (λ r. Called g r (x, tt) y q) o call) in
-      map_each q c.0 n (i + 1) k j rest (omega arith) (omega arith) d e
-
-  -- an array made by the closure of each element; d is any value
-  pub map_is : (n : ℕ) (d : A) → IsMapOf g f xs ys n → length xs ≡ n → ys ≡ map h xs
-  map_is n d w len =
+module _ {F A B : Type 0} (g : Mut F (ℕ × Unit {0}) B) (f : F) (h : A → B) (xs : List A) (d : A) (step : (j : ℕ) (y : B) (q : F) → Called g f (j, tt) y q → (q ≡ f) × (y ≡ h (get_or xs j d))) (ys : List B) where
+  -- an array made by the closure of each element of a list; d is any value
+  pub from_fn_is : (n : ℕ) → IsFromFnResult g f ys n → length xs ≡ n → ys ≡ map h xs
+  from_fn_is n w len =
       same_lists ys (map h xs) (w.long ∙ sym len ∙ sym (length-map xs h))
-      (λ k e lt. map_each f refl n 0 k k w.each (omega arith) (omega (arith, w.long)) d e ∙ sym (get_or-map h xs k d e (omega (arith, w.long))))
+      (λ k e lt. from_fn_at g f (λ j. h (get_or xs j d)) step ys n w k e (omega (arith, w.long)) ∙ sym (get_or-map h xs k d e (omega (arith, w.long))))
