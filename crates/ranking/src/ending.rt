@@ -13,9 +13,12 @@ pub fn different_totals(lines: &[Line]) -> usize
     ensures is { result ≡ neighbouring lines.now }
     ensures means { ascending earlier lines.now ≡ true → result ≡ different (totals lines.now) }
 {
-    lines
-        .chunk_by(|line, next| line.total == next.total)
-        .count()
+    let Some((_, later)) = lines.split_first() else {
+        return 0;
+    };
+    lines.iter().zip(later).fold(1, |count, (line, next)| {
+        count + usize::from(line.total != next.total)
+    })
 }
 
 /// Whether taking ends before an offer of this floor, where these lines are gathered:

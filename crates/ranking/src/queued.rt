@@ -15,6 +15,7 @@ impl Ranked for Queued {
     ghost before = { sooner };
 
     fn is_before(&self, other: &Queued) -> bool {
-        self < other
+        // This is `self < other`, compiled with one jump less at each offer that a search goes past.
+        !(other <= self)
     }
 }

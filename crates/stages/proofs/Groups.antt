@@ -1,4 +1,4 @@
--- Neighbouring lines of one total: how many such groups there are, and how many lines the first of them hold. Assumes nothing.
+-- Neighbouring lines of one total: how many lines the first such groups hold. Assumes nothing.
 use Rattle.std.proofs.Common.{◌≡◌, ℕ, zero, suc, ◌+◌, ◌-◌, ◌<◌, ◌≤◌, Bool, true, false, eqb, List, [], ◌∷◌, ◌++◌, map, length, get_or, drop, sum, Bor, sym, refl, ap, ◌∙◌, subst, arith}
 use Rattle.std.proofs.Math.Seq.{drop-append_seam}
 use Rattle.std.proofs.lemmas.List.{length-append, nil_from_length}
@@ -13,7 +13,7 @@ use Rattle.std.specs.List.{IsChunkByPrefix}
 use Rattle.std.specs.Fn.{ComputesOnPairs}
 use denote.Param.Members.{Mut}
 use Rattle.stages.specs.declared.line.Line.{Line}
-use Rattle.stages.specs.Cutting.{changes, neighbouring, follow, keeps}
+use Rattle.stages.specs.Cutting.{follow, keeps}
 
 -- two lines of one total
 abbrev pub alike : Line → Line → Bool
@@ -25,7 +25,6 @@ keeps_none (suc w) = refl
 
 -- behind the first group
 pub record Behind (ls rest : List Line) (n : ℕ) : Type 0 where
-  pub count : neighbouring ls ≡ suc (neighbouring rest)
   pub keep : (w : ℕ) → keeps (suc w) ls ≡ n + keeps w rest
 
 follow_next : (w : ℕ) (y z : Line) (zs : List Line) → eqb z.total y.total ≡ false → follow w y.total (z ∷ zs) ≡ keeps w (z ∷ zs)
@@ -48,18 +47,15 @@ tail_group y z zs n p = (
 )
 
 group : (y : Line) (ys : List Line) (n : ℕ) → n ≤ length ys → IsChunkByPrefix alike (y ∷ ys) (suc n) → Behind (y ∷ ys) (drop n ys) (suc n)
-group y [] zero h p = record { count = refl; keep = λ w. omega (arith, keeps_none w) }
+group y [] zero h p = record { keep = λ w. omega (arith, keeps_none w) }
 group y (z ∷ zs) zero h p =
     let e : eqb z.total y.total ≡ false = ne_eqb _ _ (λ k. eqb-false _ _ (p.1 (omega arith) y) (sym k)) in
-    record { count = ap suc (cond-false _ _ _ e); keep = λ w. omega (arith, follow_next w y z zs e) }
+    record { keep = λ w. omega (arith, follow_next w y z zs e) }
 group y [] (suc n) h p = absurd (omega arith)
 group y (z ∷ zs) (suc n) h p =
     let e : y.total ≡ z.total = eqb-true _ _ (p.0 0 y (omega arith)) in
     let more = group z zs n (omega arith) (tail_group y z zs n p) in
-    record {
-      count = ap suc (cond-true _ _ _ (eq-eqb _ _ (sym e)) ∙ ap (λ t. changes t zs) e) ∙ more.count;
-      keep = λ w. omega (arith, follow_same w y z zs e, more.keep w);
-    }
+    record { keep = λ w. omega (arith, follow_same w y z zs e, more.keep w) }
 
 first_group : (xs rest : List Line) → 0 < length xs → IsChunkByPrefix alike (xs ++ rest) (length xs) → Behind (xs ++ rest) rest (length xs)
 first_group [] rest h p = absurd (omega arith)
@@ -86,14 +82,6 @@ module _ {F : Type 0} (g : Mut F (Bor Line × (Bor Line × Unit {0})) Bool) wher
   groups_within (x ∷ xs) s u y =
       omega (arith, sum_by-cons (λ n. n) (length x.now) (map (λ z. length z.now) xs), groups_within xs y.0 u y.2, ap length y.1.0, length-append x.now (chunk_by_rest y.0))
 
-  groups_count : (xs : List (Bor (List Line))) (s u : ChunkBy Line F) → ComputesOnPairs g alike (chunk_by_callee s) → Yields (chunk_by_steps g) s xs u
-      → length (chunk_by_rest u) ≡ 0 → length xs ≡ neighbouring (chunk_by_rest s)
-  groups_count [] s u by y e = sym (ap neighbouring (ap chunk_by_rest y ∙ nil_from_length _ e))
-  groups_count (x ∷ xs) s u by y e =
-      let m = y.1.2 alike by in
-      let b = first_group x.now (chunk_by_rest y.0) y.1.1 (subst (λ ls. IsChunkByPrefix alike ls (length x.now)) y.1.0 m.1) in
-      ap suc (groups_count xs y.0 u m.0 y.2 e) ∙ sym b.count ∙ ap neighbouring (sym y.1.0)
-
   -- what a run of `chunk_by` says of the lines ls
   module _ (r : Run (chunk_by_steps g)) (s : ChunkBy Line F) (from : r.from ≡ s) (ls : List Line) (rest : chunk_by_rest s ≡ ls) where
     lines : chunk_by_rest r.from ≡ ls
@@ -110,6 +98,3 @@ module _ {F : Type 0} (g : Mut F (Bor Line × (Bor Line × Unit {0})) Bool) wher
       run_keeps w h e =
           groups_keep r.items r.from (took r).0 w computes (took r).1 (omega (arith, r.long)) (λ l. ((took r).2 (e (omega (arith, r.long)))).1.0)
           ∙ ap (keeps w) lines
-
-      pub run_counts : r.whole ≡ true → r.len ≡ neighbouring ls
-      run_counts e = r.long ∙ groups_count r.items r.from (took r).0 computes (took r).1 ((took r).2 e).1.0 ∙ ap neighbouring lines

@@ -14,6 +14,7 @@ impl Ranked for Line {
     ghost before = { earlier };
 
     fn is_before(&self, other: &Line) -> bool {
-        self < other
+        // This is `self < other`, compiled with one jump less at each line that a search goes past.
+        !(other <= self)
     }
 }
